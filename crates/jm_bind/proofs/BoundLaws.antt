@@ -1,5 +1,5 @@
 -- The modules that the graph's roots lead to are those that are in every closed set.
-use Rattle.std.proofs.Common.{◌≡◌, ℕ, zero, suc, ◌<◌, ◌↔◌, ◌⊎◌, inl, inr, Bool, false, List, [], ◌∷◌, length}
+use Rattle.std.proofs.Common.{◌≡◌, ℕ, zero, suc, ◌<◌, ◌↔◌, ◌⊎◌, inl, inr, Bool, false, List, [], ◌∷◌, length, rules}
 use Rattle.std.proofs.Common.{Some, Contains, refl, subst, arith, take, slice_index_or}
 use Rattle.std.specs.Prelude.{filter}
 use Rattle.std.specs.List.{range_with_len}
@@ -93,14 +93,10 @@ module _ (found : List Candidate) (names : List (List ℕ × ℕ)) (roots : List
 -- Marks in front of a place
 
 pub marked_front : (flags : List Bool) (n i : ℕ) → IsMarked (take n flags) i ↔ ((i < n) × IsMarked flags i)
-marked_front flags zero i = ((λ marked. absurd (false≢true marked)), (λ is. absurd (omega (arith, is.0))))
-marked_front [] (suc n) i = ((λ marked. absurd (false≢true marked)), (λ is. absurd (false≢true is.1)))
-marked_front (flag ∷ flags) (suc n) zero = ((λ marked. (omega arith, marked)), (λ is. is.1))
-marked_front (flag ∷ flags) (suc n) (suc i) =
-    let law = marked_front flags n i in (
-      (λ marked. (let is = law.0 marked in (omega (arith, is.0), is.1))),
-      (λ is. law.1 (omega (arith, is.0), is.1)),
-    )
+marked_front flags zero i = search (rules, false≢true)
+marked_front [] (suc n) i = search (rules, false≢true)
+marked_front (flag ∷ flags) (suc n) zero = search (rules)
+marked_front (flag ∷ flags) (suc n) (suc i) = search (rules, (marked_front flags n i))
 
 -- the places of the marks in front of a place
 abbrev marked_places : List Bool → ℕ → List ℕ
@@ -108,11 +104,7 @@ marked_places flags n = filter (λ i. slice_index_or flags i false) (range_with_
 
 closed_as : (found : List Candidate) (roots : List (List ℕ)) (P Q : ℕ → Type 0) → ((i : ℕ) → P i ↔ Q i)
     → IsClosed found roots P → IsClosed found roots Q
-closed_as found roots P Q same closed = record {
-  rooted = λ i root. (same i).0 (closed.rooted i root);
-  required = λ i j has requires. (same j).0 (closed.required i j ((same i).1 has) requires);
-  served = λ i j has uses. (same j).0 (closed.served i j ((same i).1 has) uses);
-}
+closed_as found roots P Q same closed = search (rules)
 
 -- Of a graph that is drawn and the marks of what its roots lead to
 module _ (found : List Candidate) (names : List (List ℕ × ℕ)) (roots : List (List ℕ))
@@ -155,11 +147,3 @@ module _ (found : List Candidate) (names : List (List ℕ × ℕ)) (roots : List
   pub bound_within : (Has : ℕ → Type 0) → IsClosed found roots Has → (i : ℕ) → Bound found roots i → Has i
   bound_within Has closed i bound =
       led_within found names roots services graph indexed drawn Has closed i (bound_led i bound)
-
--- the set of the bound modules is closed itself, and so the least closed set
-pub bound_closed : (found : List Candidate) (roots : List (List ℕ)) → IsClosed found roots (Bound found roots)
-bound_closed found roots = record {
-  rooted = λ i root places closed. closed.rooted i root;
-  required = λ i j bound requires places closed. closed.required i j (bound places closed) requires;
-  served = λ i j bound serves places closed. closed.served i j (bound places closed) serves;
-}

@@ -1,5 +1,5 @@
 -- The graph of modules and services, one node and one edge more.
-use Rattle.std.proofs.Common.{◌≡◌, ℕ, zero, suc, ◌+◌, ◌<◌, ◌≤◌, ◌↔◌, ◌⊎◌, inl, inr, Bool, true, false, List}
+use Rattle.std.proofs.Common.{◌≡◌, ℕ, zero, suc, ◌+◌, ◌<◌, ◌≤◌, ◌↔◌, ◌⊎◌, inl, inr, Bool, true, false, List, rules}
 use Rattle.std.proofs.Common.{[], ◌∷◌, ◌++◌, length, Option, Some, None, Contains, refl, sym, ◌∙◌, subst}
 use Rattle.std.proofs.Common.{arith, length-append, length-set, slice_get}
 use Rattle.std.proofs.lemmas.Bool.{cases_eq}
@@ -30,11 +30,7 @@ module _ (services services' : List (List ℕ × ℕ)) (service : List ℕ) (nod
   -- which place a text has after a new one was put
   placed_cases : (text : List ℕ) (at : ℕ) → place_in services' text ≡ Some at
       → ((text ≡ service) × (node ≡ at)) ⊎ (place_in services text ≡ Some at)
-  placed_cases text at is =
-      elim (chosen (bytes_eq text service) (Some node) (place_in services text) (Some at) (sym (puts text) ∙ is)) [
-        | inl (same, here) ↦ inl ((bytes_eq-Decides text service).0 same, same_some node at here)
-        | inr (other, old) ↦ inr old
-      ]
+  placed_cases text at is = search (rules, bytes_eq-Decides, chosen, same_some)
 
   placed_still : (text : List ℕ) (at : ℕ) → place_in services text ≡ Some at → place_in services' text ≡ Some at
   placed_still text at is = go (bytes_eq text service) refl
@@ -279,13 +275,7 @@ provides_more found Uses Provides services graph place front x node below is dra
 
 pub with_none : (Relates : ℕ → List ℕ → Type 0) (place i : ℕ) (text : List ℕ)
     → Relates i text ↔ With Relates place [] i text
-with_none Relates place i text = (
-  (λ old. inl old),
-  (λ has. elim has [
-    | inl old ↦ old
-    | inr (here, there) ↦ absurd (contains_none text there)
-  ]),
-)
+with_none Relates place i text = search (rules, contains_none)
 
 pub with_all : (Relates : ℕ → List ℕ → Type 0) (place : ℕ) (texts : List (List ℕ)) (i : ℕ) (text : List ℕ)
     → ((t : List ℕ) → Contains texts t ↔ Relates place t)
@@ -316,9 +306,7 @@ pub uses_end : (found : List Candidate) (Uses Provides : ℕ → List ℕ → Ty
     → ((t : List ℕ) → Contains texts t ↔ Uses place t)
     → IsDrawn found (With (Below place Uses) place texts) Provides services graph
     → IsDrawn found (Below (place + 1) Uses) Provides services graph
-uses_end found Uses Provides services graph place texts all =
-    drawn_as found (With (Below place Uses) place texts) (Below (place + 1) Uses) Provides Provides services graph
-    (λ i text. with_all Uses place texts i text all) (as_it_is Provides)
+uses_end found Uses Provides services graph place texts all = search (rules, drawn_as, with_all, as_it_is)
 
 pub provides_begin : (found : List Candidate) (Uses Provides : ℕ → List ℕ → Type 0) (services : List (List ℕ × ℕ))
     (graph : List (List ℕ)) (place : ℕ)
@@ -331,25 +319,17 @@ pub provides_end : (found : List Candidate) (Uses Provides : ℕ → List ℕ �
     → ((t : List ℕ) → Contains texts t ↔ Provides place t)
     → IsDrawn found Uses (With (Below place Provides) place texts) services graph
     → IsDrawn found Uses (Below (place + 1) Provides) services graph
-provides_end found Uses Provides services graph place texts all =
-    drawn_as found Uses Uses (With (Below place Provides) place texts) (Below (place + 1) Provides) services graph
-    (as_it_is Uses) (λ i text. with_all Provides place texts i text all)
+provides_end found Uses Provides services graph place texts all = search (rules, drawn_as, with_all, as_it_is)
 
 -- the services of the module at a place are those of its descriptor
 
 pub uses_of : (found : List Candidate) (place : ℕ) (c : Candidate) → slice_get found place ≡ Some c
     → (text : List ℕ) → Contains c.descriptor.uses text ↔ UsesService found place text
-uses_of found place c is text = (
-  (λ there. (c, is, there)),
-  (λ (d, at, there). subst (λ (m : Candidate). Contains m.descriptor.uses text) (same_some d c (sym at ∙ is)) there),
-)
+uses_of found place c is text = search (rules, same_some)
 
 pub provides_of : (found : List Candidate) (place : ℕ) (c : Candidate) → slice_get found place ≡ Some c
     → (text : List ℕ) → Contains (provided_by c) text ↔ ProvidesService found place text
-provides_of found place c is text = (
-  (λ there. (c, is, there)),
-  (λ (d, at, there). subst (λ (m : Candidate). Contains (provided_by m) text) (same_some d c (sym at ∙ is)) there),
-)
+provides_of found place c is text = search (rules, same_some)
 
 -- From no module to all of them
 

@@ -1,5 +1,5 @@
 -- Checks in their order: the first fault as a rule, as a value, and over a range of numbers.
-use Rattle.std.proofs.Common.{◌≡◌, ℕ, zero, suc, ◌+◌, ◌<◌, ◌≤◌, ◌⊎◌, inl, inr, Bool, true, false, List, []}
+use Rattle.std.proofs.Common.{◌≡◌, ℕ, zero, suc, ◌+◌, ◌<◌, ◌≤◌, inl, inr, Bool, true, false, List, []}
 use Rattle.std.proofs.Common.{◌∷◌, ◌++◌, map, Option, Some, None, refl, sym, ap, ◌∙◌, arith}
 use Rattle.std.proofs.lemmas.List.Elements.{All-nil, All-cons, All-head, All-tail}
 use Rattle.std.specs.Prelude.{All, slice_get}
@@ -82,12 +82,6 @@ no_fault_at (first ∷ checks) (suc k) check e there = no_fault_at checks k chec
 
 -- One fault behind the other
 
--- the fault is that of the check in front, or that of the ones behind it
-pub first_fault_cases : {F : Type 0} (check : Option F) (checks : List (Option F)) (fault : F) → first_fault (check ∷ checks)
-    ≡ Some fault → (check ≡ Some fault) ⊎ ((check ≡ None) × (first_fault checks ≡ Some fault))
-first_fault_cases None checks fault e = inr (refl, e)
-first_fault_cases (Some found) checks fault e = inl e
-
 pub first_fault_append_none : {F : Type 0} (xs ys : List (Option F)) → first_fault xs ≡ None → first_fault (xs ++ ys) ≡ first_fault ys
 first_fault_append_none [] ys e = refl
 first_fault_append_none (None ∷ xs) ys e = first_fault_append_none xs ys e
@@ -129,33 +123,4 @@ first_fault_least fault i (suc n) j found from to before here =
           let none : fault i ≡ None = before i (omega arith) (omega arith) in
           let later = first_fault_least fault (i + 1) n j found past (omega arith) (λ k from to. before k (omega arith) to) here in
           rw none later
-    ]
-
--- the least number that has a fault, and its fault
-pub record IsLeastFault {F : Type 0} (fault : ℕ → Option F) (i n : ℕ) (found : F) : Type 0 where
-  pub number : ℕ
-  pub from : i ≤ number
-  pub to : number < i + n
-  pub here : fault number ≡ Some found
-  pub before : (k : ℕ) → i ≤ k → k < number → fault k ≡ None
-
-pub first_fault_number : {F : Type 0} (fault : ℕ → Option F) (i n : ℕ) (found : F) → first_fault (map fault (range_with_len i n))
-    ≡ Some found → IsLeastFault fault i n found
-first_fault_number fault i zero found e = cc
-first_fault_number fault i (suc n) found e =
-    elim (first_fault_cases (fault i) (map fault (range_with_len (i + 1) n)) found e) [
-      | inl here ↦ record { number = i; from = omega arith; to = omega arith; here = here; before = λ k from to. absurd (omega arith) }
-      | inr both ↦
-          let later = first_fault_number fault (i + 1) n found both.1 in
-          record {
-            number = later.number;
-            from = omega (arith, later.from);
-            to = omega (arith, later.to);
-            here = later.here;
-            before = λ k from to. elim (first_or_later i k from) [
-              | inl same ↦ ap fault (sym same) ∙ both.0
-              | inr past ↦ later.before
-                  k past to
-            ];
-          }
     ]

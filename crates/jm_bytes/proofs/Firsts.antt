@@ -2,7 +2,7 @@
 use Rattle.std.proofs.Common.{◌≡◌, ℕ, zero, suc, ◌+◌, ◌<◌, ◌||◌, not, Bool, true, false, cond, List, [], ◌∷◌}
 use Rattle.std.proofs.Common.{length, take, get_or, refl, ap, ◌∙◌, arith, length-take}
 use Rattle.std.proofs.lemmas.Bool.{false_from_ne_true}
-use Rattle.std.proofs.lemmas.List.{length-take-le, take-take, take_all}
+use Rattle.std.proofs.lemmas.List.{length-take-le, take-take}
 use Rattle.std.proofs.lemmas.List.Elements.{All-from_get_or}
 use Rattle.std.proofs.lemmas.List.Folds.{list_any_none}
 use Rattle.std.proofs.lemmas.List.Sums.{passes_at_first, position_or_len_is}
@@ -15,14 +15,6 @@ before_first_at p xs i d below earlier here =
     let place = position_or_len_is p xs i d (omega arith) (λ k k_below. false_from_ne_true (p (get_or xs k d)) (earlier k k_below))
     (λ _. here) in
     ap (λ n. take n xs) place
-
--- all stands before it where none passes
-pub before_first_none : {X : Type 0} (p : X → Bool) (xs : List X) (d : X) → ((k : ℕ) → k < length xs → p (get_or xs k d) ≡ true → ⊥)
-    → before_first p xs ≡ xs
-before_first_none p xs d none_passes =
-    let place = position_or_len_is p xs (length xs) d (omega arith) (λ k k_below. false_from_ne_true (p (get_or xs k d))
-    (none_passes k k_below)) (λ past. absurd (omega arith)) in
-    ap (λ n. take n xs) place ∙ take_all (length xs) xs (omega arith)
 
 -- no element passes where none passes at any place
 pub no_first : {X : Type 0} (p : X → Bool) (xs : List X) (d : X) → ((k : ℕ) → k < length xs → p (get_or xs k d) ≡ true → ⊥)

@@ -5,7 +5,6 @@ pub mod Cuts
 pub mod Finds
 pub mod Firsts
 pub mod Members
-pub mod MeterLaws
 pub mod Pairs
 pub mod ResultLaws
 pub mod SameOrder

@@ -109,7 +109,8 @@ fn attribute<'a>(
     pool: &[Slot],
     in_method: bool,
 ) -> Result<Attribute<'a>, Or<ClassFault>>
-    ensures { Gives attribute_of (reading Short (attribute_field (pool_of pool.now) in_method) cursor.old)
+    ensures { Gives attribute_of
+        (reading Short (attribute_field (pool_of pool.now) in_method) cursor.old)
         result cursor.new }
 {
     let name = name(cursor, pool, Missing::Here)?;

@@ -52,7 +52,8 @@ fn tag(cursor: &mut Cursor, more: bool) -> Result<u8, ClassFault>
 
 /// What stands behind a tag. A Utf8 that doesn't fit is short at its length.
 fn body<'a>(cursor: &mut Cursor<'a>, tag: u8) -> Result<&'a [u8], ClassFault>
-    ensures { Finds (λ body. body.now) (reading Short (body_field tag) cursor.old) result cursor.new }
+    ensures { Finds (λ body. body.now) (reading Short (body_field tag) cursor.old)
+        result cursor.new }
 {
     match body_size(tag) {
         Some(size) => part(cursor, size, Missing::Here),

@@ -6,5 +6,5 @@ mod sizes;
 mod writing;
 
 pub use parts::{put16, put32};
-pub use sizes::size;
+pub use sizes::{size, slots_size};
 pub use writing::write;

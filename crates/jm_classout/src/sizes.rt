@@ -7,7 +7,8 @@ ghost use Rattle.jm_class.specs.Views.{member_of, plain};
 
 use jm_class::{Attribute, Body, Class, Code, Member, Plain, Slot};
 
-fn slots_size(slots: &[Slot]) -> u64
+/// The bytes of the numbers of a pool, without their count.
+pub fn slots_size(slots: &[Slot]) -> u64
     requires { length (flat_map slot_text (map slot_of slots.now)) < 2 ^ 64 }
     ensures { result ≡ length (flat_map slot_text (map slot_of slots.now)) }
 {

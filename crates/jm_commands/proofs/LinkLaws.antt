@@ -5,8 +5,8 @@ use Rattle.std.proofs.lemmas.List.Elements.{All-nil}
 use Rattle.jm_bytes.proofs.Choice.{same_err}
 use Rattle.jm_bytes.specs.declared.words.Order.{Order}
 use Rattle.jm_form.specs.declared.damage.Damage.{Damage}
+use Rattle.jm_filed.specs.Filed.{IsFiled}
 use Rattle.jm_form.specs.Damages.{first_damage}
-use Rattle.jm_form.specs.Head.{IsFileOf}
 use Rattle.jm_outside.specs.Files.{Files}
 use Rattle.jm_outside.specs.Shelves.{ShelfFailed, ShelfSeen}
 use Rattle.jm_outside.proofs.MadeLaws.{part_alone}
@@ -37,10 +37,10 @@ use Rattle.jm_inspect.specs.Steps.{IsFailure, PutDoes, StepComesTo}
 use Rattle.jm_inspect.specs.Sinks.{Seen}
 use Rattle.jm_commands.specs.Stops.{stop_of_link}
 use Rattle.jm_commands.specs.Taken.{LinkTakes, TakesLinkedOf}
-use Rattle.jm_inspect.specs.Taken.{TakesFrom, front_size}
+use Rattle.jm_inspect.specs.Taken.{TakesFrom, TakesOfFront, front_size}
 use Rattle.jm_inspect.specs.World.{World, world}
 use Rattle.jm_inspect.proofs.FrontLaws.{opened, takes_so}
-use Rattle.jm_inspect.proofs.StepLaws.{complains, fails_at_once, made_in_part, made_put}
+use Rattle.jm_inspect.proofs.StepLaws.{comes_behind, complains, fails_at_once, made_in_part, made_put}
 
 -- an image that is laid out shows the trees of its resources
 linked_shown : (order : Order) (result : Result LinkedImage Refusal) → IsLaid order result → ShowsLinked result
@@ -70,7 +70,7 @@ takes_link_front told path asked old new takes =
 pub takes_filed : (asked : Request) (path output : List ℕ) (shelf mid new : ShelfSeen) (front : Front) (answer : Result Summary LinkStop)
     (old now after : ℕ) → mid.told ≡ shelf.told → IsOpenFront shelf.told path front
     → FiledLinks front asked path output answer mid new now after
-    → ((b : List ℕ) → IsFileOf front.bytes front.length b → now ≤ old + front_size b) → LinkTakes shelf.told asked (Image path) old after
+    → TakesOfFront front front_size old now → LinkTakes shelf.told asked (Image path) old after
 takes_filed asked path output shelf mid new front answer old now after same opens did taken =
     let b = did.bytes in (
       Some b,
@@ -178,16 +178,24 @@ module _ (text : Summary → List ℕ) (link : LinkTask) (path : List ℕ) (shel
   Ends answer = StepComesTo (ImageComes shelf.told path (ImageLinkComesTo text link)) reading answer (world shelf source out)
       (world new source new_out)
 
+  -- behind the opening, what is done with the file
+  ends : (b : List ℕ) (answer : Result (Unit {0}) Stop) → IsFiled front mid.told path b
+      → StepComesTo (ImageLinkComesTo text link b) reading answer (world mid source out) (world new source new_out) → Ends answer
+  ends b answer filed step =
+      comes_behind (ImageComes shelf.told path (ImageLinkComesTo text link)) shelf (world mid source out) (world new source new_out) answer
+      same kept (opened (ImageLinkComesTo text link) shelf.told path front b opens
+      (subst (λ (told : Option Files). IsFiled front told path b) same filed) step)
+
   pub filed_put : (summary : Summary) (answer : Result (Unit {0}) Stop) → Did (Ok summary) → PutDoes (done (text summary)) answer out new_out
       → Ends answer
   filed_put summary answer did puts =
-      opened (ImageLinkComesTo text link) path shelf mid same source out kept front did.bytes answer (world new source new_out) opens did.filed
+      ends did.bytes answer did.filed
       (image_put text link did.bytes (world mid source out) (world new source new_out) refl summary answer did.links puts)
 
   pub filed_stopped : (given : LinkStop) → Did (Err given) → new_out.told ≡ out.told → Ends (Err (stop_of_link given))
   filed_stopped given did unput =
-      opened (ImageLinkComesTo text link) path shelf mid same source out kept front did.bytes (Err (stop_of_link given)) (world new source new_out)
-      opens did.filed (image_stopped text link did.bytes (world mid source out) (world new source new_out) refl given did.links unput)
+      ends did.bytes (Err (stop_of_link given)) did.filed
+      (image_stopped text link did.bytes (world mid source out) (world new source new_out) refl given did.links unput)
 
 -- By where the modules are
 

@@ -1,13 +1,10 @@
 -- What a run did to the source: nothing, but by a session.
-use Rattle.std.proofs.Common.{◌≡◌, ℕ, zero, suc, List, [], ◌++◌, take, Option, Some, None, option_map, Result}
-use Rattle.std.proofs.Common.{Ok, Err, inl, inr, refl, ap, ◌∙◌, subst, append-nil}
+use Rattle.std.proofs.Common.{◌≡◌, ◌≢◌, ℕ, zero, suc, List, [], ◌++◌, take, Option, Some, None, option_map, Result}
+use Rattle.std.proofs.Common.{Ok, Err, inl, inr, refl, sym, ap, ◌∙◌, subst, append-nil}
 use Rattle.jm_bytes.proofs.Choice.{same_some}
-use Rattle.jm_extract.specs.Extracted.{extracted}
 use Rattle.jm_outside.specs.Made.{written}
 use Rattle.jm_form.specs.declared.damage.Damage.{Damage}
 use Rattle.jm_form.specs.Damages.{first_damage}
-use Rattle.jm_form.specs.Validity.{look}
-use Rattle.jm_jrt.specs.Stat.{held, stat}
 use Rattle.jm_jrt.specs.Lines.{replies}
 use Rattle.jm_jrt.specs.Sessions.{answered_in}
 use Rattle.jm_texts.specs.declared.refusal.Refusal.{Refusal}
@@ -37,19 +34,14 @@ use Rattle.jm_commands.specs.Served.{ServesRun, served, served_in}
 use Rattle.jm_inspect.specs.SessionHeld.{EndsAs, NotBegun, SourceRead}
 use Rattle.jm_inspect.specs.Sinks.{Gets, GetsFront, Seen}
 use Rattle.jm_inspect.specs.World.{World}
-use Rattle.jm_inspect.proofs.ExtractLaws.{extract_session}
-use Rattle.jm_inspect.proofs.OutcomeLaws.{cat_session, describe_session, ls_session}
+use Rattle.jm_inspect.proofs.OutcomeLaws.{describe_session, work_session}
 use Rattle.jm_inspect.proofs.StepLaws.{not_begun}
 
 -- A session is due of `serve` alone
 
-image_session : (image : List ℕ) (does : ImageWork) (b text : List ℕ) → served (task.Image image does) ≡ None
-    → (image_outcome does b text).session ≡ None
-image_session image (work.Cat name) b text none = cat_session name (look b name)
-image_session image (work.Ls folder) b text none = ls_session folder (held (stat b folder))
-image_session image (work.Extract dir include) b text none = extract_session dir (extracted b include)
-image_session image work.Serve b text none = cc
-image_session image _ b text none = refl
+-- what serves no image is no `serve`
+served_none : (image : List ℕ) (does : ImageWork) → served (task.Image image does) ≡ None → does ≢ work.Serve
+served_none image does none is = let never : Some image ≡ None = sym (ap (λ d. served (task.Image image d)) is) ∙ none in cc
 
 link_session : (text : Summary → List ℕ) (link : LinkTask) (result : Result LinkedImage Refusal)
     → (link_outcome text link result).session ≡ None
@@ -84,7 +76,7 @@ due_session told rest (task.Describe file release) due none (Some b, has, is) = 
 due_session told rest (task.Image image does) due none (None, has, is) = ap (λ o. o.session) is
 due_session told rest (task.Image image does) due none (Some b, has, comes) =
     opened_session (TextComesTo rest (image_outcome does b)) due (λ (text, told_text, is). ap (λ o. o.session) is
-    ∙ image_session image does b text none) (first_damage b) comes
+    ∙ work_session does b text (served_none image does none)) (first_damage b) comes
 due_session told rest (task.Link link) due none comes = linked_session link_text told link due comes
 due_session told rest (task.Gen gen) due none (linked, comes, is) =
     ap (λ o. o.session) is ∙ linked_session gen_text (option_map (λ files. written files (made_first gen)) told) (gen_link gen) linked comes

@@ -1,31 +1,18 @@
 -- What a run takes of its image.
-use Rattle.std.proofs.Common.{◌≡◌, ℕ, List, length, Option, Result, Ok, Err, refl, subst}
-use Rattle.jm_form.specs.Validity.{look}
-use Rattle.jm_jrt.specs.Stat.{node_sought}
+use Rattle.std.proofs.Common.{◌≡◌, ℕ, Option, Result, Ok, Err, refl, subst}
 use Rattle.jm_link.specs.Linked.{Request}
 use Rattle.jm_link.specs.Links.{request_of}
 use Rattle.jm_outside.specs.Files.{Files}
 use Rattle.jm_words.specs.declared.errors.WordsFault.{WordsFault}
 use Rattle.jm_words.specs.declared.tasks.Command.{Command}
-use Rattle.jm_words.specs.declared.tasks.ImageWork.{ImageWork}
-use Rattle.jm_words.specs.declared.tasks.ImageWork.TheVariants as work_of
 use Rattle.jm_words.specs.declared.tasks.Source.{Source}
 use Rattle.jm_words.specs.declared.tasks.Source.TheVariants as source
 use Rattle.jm_words.specs.declared.tasks.Task.{Task}
 use Rattle.jm_words.specs.declared.tasks.Task.TheVariants as task
 use Rattle.jm_commands.specs.Taken.{LinkTakes, TakesNoMore, TaskTakes}
-use Rattle.jm_inspect.specs.Taken.{WorkTakes, extract_size, front_size, sought_size}
-use Rattle.jm_inspect.proofs.FrontLaws.{takes_nothing}
+use Rattle.jm_inspect.specs.Taken.{front_size}
+use Rattle.jm_inspect.proofs.FrontLaws.{takes_nothing, work_takes_nothing}
 use Rattle.jm_commands.proofs.LinkLaws.{takes_link_front}
-
-work_takes_nothing : (told : Option Files) (path : List ℕ) (does : ImageWork) (n : ℕ) → WorkTakes told path does n n
-work_takes_nothing told path work_of.Info n = takes_nothing told path front_size n
-work_takes_nothing told path work_of.Verify n = takes_nothing told path front_size n
-work_takes_nothing told path (work_of.List include) n = takes_nothing told path front_size n
-work_takes_nothing told path (work_of.Cat name) n = takes_nothing told path (sought_size (λ b. look b name)) n
-work_takes_nothing told path (work_of.Ls folder) n = takes_nothing told path (sought_size (λ b. node_sought b folder)) n
-work_takes_nothing told path (work_of.Extract dir include) n = takes_nothing told path (extract_size include) n
-work_takes_nothing told path work_of.Serve n = takes_nothing told path (λ b. length b) n
 
 link_takes_nothing : (told : Option Files) (asked : Request) (given : Source) (n : ℕ) → LinkTakes told asked given n n
 link_takes_nothing told asked (source.Path directories) n = tt

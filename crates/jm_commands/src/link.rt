@@ -17,7 +17,6 @@ ghost use Rattle.jm_commands.specs.Taken.{LinkTakes};
 ghost use Rattle.jm_inspect.specs.World.{sink_at, world};
 
 use jm_bytes::{Meter, Text};
-use jm_filed::FiledImage;
 use jm_halves::{Gate, Workers};
 use jm_inspect::{Complaint, FileFront, OpenFront, Stop, put_text};
 use jm_link::{LinkStop, Summary, link, link_image};
@@ -55,36 +54,23 @@ fn put_summary<O: Sink>(alloc: Global, summary: &Summary, out: &mut O) -> Result
     put_text(alloc, text, out)
 }
 
-/// The image whose modules are linked: its open index, and the path of its file.
-#[derive(Clone, Copy)]
-struct SourceImage<'f, 'p, 'a> {
-    front: &'f OpenFront<'a>,
-    path: &'p Text,
-}
-
 /// Does what `link_image` does, with a meter of its own.
 fn link_counted<T: Threads + Sync, S: Shelf, G: Gate + Sync, R: Ledger>(
     workers: &Workers<T, G>,
     task: &LinkTask,
-    source: SourceImage,
+    image: &OpenFront,
     shelf: &mut S,
     reads: Blank,
 ) -> Result<Summary, LinkStop>
-    requires path { IsUtf8 source.path.now }
     requires output { IsUtf8 task.now.output }
-    requires there { IsIndexAt source.front.now (S.files shelf.old) source.path.now }
+    requires there { IsIndexAt image.now.front (S.files shelf.old) image.now.path }
     requires reads { IsLedger reads.name reads.parts R.name R.parts }
-    ensures { FiledLinks source.entry.front.now (request_of task.now) source.entry.path.now
+    ensures { FiledLinks image.now.front (request_of task.now) image.now.path
         task.now.output result (shelf_at S.Shelf shelf.old) (shelf_at S.Shelf shelf.new)
         (S.handed shelf.old) (S.handed shelf.new) }
 {
-    let SourceImage { front, path } = source;
-    let mut reads = Meter::<R>::new(front.bytes(), reads);
-    let image = FiledImage {
-        index: front.as_index(),
-        path: path.as_slice(),
-    };
-    link_image(workers, task, image, &mut reads, shelf)
+    let mut reads = Meter::<R>::new(image.bytes(), reads);
+    link_image(workers, task, image.as_filed(), &mut reads, shelf)
 }
 
 /// Links the modules of the image in the file at a path, and puts what the new image has. What
@@ -108,13 +94,9 @@ fn link_from_image<T: Threads + Sync, S: Shelf, O: Sink, G: Gate + Sync>(
         (S.handed shelf.old) (S.handed shelf.new) }
 {
     let mut bytes = FileFront::new(workers.alloc);
-    let front = OpenFront::at(workers, path, &mut bytes, shelf)?;
-    let source = SourceImage {
-        front: &front,
-        path,
-    };
+    let image = OpenFront::at(workers, path, &mut bytes, shelf)?;
     let reads = Blank::new(1);
-    match link_counted::<T, S, G, Brand>(workers, task, source, shelf, reads) {
+    match link_counted::<T, S, G, Brand>(workers, task, &image, shelf, reads) {
         Ok(summary) => put_summary(workers.alloc, &summary, out),
         Err(why) => Err(stop_of_link(why)),
     }

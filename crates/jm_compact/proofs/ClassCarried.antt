@@ -17,17 +17,34 @@ use Rattle.jm_compact.proofs.MovedParts.{moved_attribute, moved_member, moved_cl
 use Rattle.jm_compact.proofs.PartBytes.{front_bytes, each_bytes}
 use Rattle.jm_compact.proofs.PartsCarried.{new_below, carries_counted, carries_attribute, carries_member}
 
+-- the text from the attributes, the methods, the fields and the interfaces on
+abbrev from_attributes : ClassData → List ℕ
+from_attributes c = counted_text attribute_text c.attributes ++ []
+
+abbrev from_methods : ClassData → List ℕ
+from_methods c = counted_text member_text c.methods ++ from_attributes c
+
+abbrev from_fields : ClassData → List ℕ
+from_fields c = counted_text member_text c.fields ++ from_methods c
+
+abbrev from_interfaces : ClassData → List ℕ
+from_interfaces c = counted_text u2 c.interfaces ++ from_fields c
+
+-- the steps from the fields, and from the interfaces on
+abbrev member_steps : List SlotData → ClassData → List Step
+member_steps pool c =
+    later 2 (each (member_step Field pool) c.fields) ∷ later 2 (each (member_step Method pool) c.methods)
+    ∷ later 2 (each (attribute_step Class pool) c.attributes) ∷ []
+
+abbrev interface_steps : List SlotData → ClassData → List Step
+interface_steps pool c = later 2 (each (notes false) c.interfaces) ∷ member_steps pool c
+
 -- what stands behind the pool, and in front of its count
 abbrev pub behind_pool : ClassData → List ℕ
-behind_pool c =
-    u2 c.access ++ (u2 c.this_class ++ (u2 c.super_class ++ (counted_text u2 c.interfaces
-    ++ (counted_text member_text c.fields ++ (counted_text member_text c.methods ++ (counted_text attribute_text c.attributes ++ []))))))
+behind_pool c = u2 c.access ++ (u2 c.this_class ++ (u2 c.super_class ++ from_interfaces c))
 
 abbrev pub before_pool : ClassData → List ℕ
 before_pool c = u4 magic ++ (u2 c.minor ++ u2 c.major)
-
-pub text_cut : (c : ClassData) → class_text c ≡ before_pool c ++ (pool_text c.pool ++ behind_pool c)
-text_cut c = refl
 
 pub front-is : (c : ClassData) → front c ≡ before_pool c
 front-is c = refl
@@ -42,36 +59,22 @@ module _ (c : ClassData) (fits : IsClass c) (bytes : IsBytes (class_text c)) (d 
 
   abbrev pub new_parts : List Step
   new_parts =
-      notes false moved.this_class ∷ notes true moved.super_class ∷ later 2 (each (notes false) moved.interfaces)
-      ∷ later 2 (each (member_step Field d) moved.fields) ∷ later 2 (each (member_step Method d) moved.methods)
-      ∷ later 2 (each (attribute_step Class d) moved.attributes) ∷ []
+      notes false moved.this_class ∷ notes true moved.super_class ∷ interface_steps d moved
 
   -- The bytes of the parts
-
-  abbrev from_attributes : List ℕ
-  from_attributes = counted_text attribute_text c.attributes ++ []
-
-  abbrev from_methods : List ℕ
-  from_methods = counted_text member_text c.methods ++ from_attributes
-
-  abbrev from_fields : List ℕ
-  from_fields = counted_text member_text c.fields ++ from_methods
-
-  abbrev from_interfaces : List ℕ
-  from_interfaces = counted_text u2 c.interfaces ++ from_fields
 
   behind_bytes : IsBytes (behind_pool c)
   behind_bytes = bytes_behind (pool_text c.pool) (behind_pool c) (bytes_behind (before_pool c) (pool_text c.pool ++ behind_pool c) bytes)
 
-  field_bytes : IsBytes from_fields
-  field_bytes = bytes_behind (counted_text u2 c.interfaces) from_fields
-      (bytes_behind (u2 c.access ++ (u2 c.this_class ++ u2 c.super_class)) from_interfaces behind_bytes)
+  field_bytes : IsBytes (from_fields c)
+  field_bytes = bytes_behind (counted_text u2 c.interfaces) (from_fields c)
+      (bytes_behind (u2 c.access ++ (u2 c.this_class ++ u2 c.super_class)) (from_interfaces c) behind_bytes)
 
-  method_bytes : IsBytes from_methods
-  method_bytes = bytes_behind (counted_text member_text c.fields) from_methods field_bytes
+  method_bytes : IsBytes (from_methods c)
+  method_bytes = bytes_behind (counted_text member_text c.fields) (from_methods c) field_bytes
 
-  attribute_bytes : IsBytes from_attributes
-  attribute_bytes = bytes_behind (counted_text member_text c.methods) from_attributes method_bytes
+  attribute_bytes : IsBytes (from_attributes c)
+  attribute_bytes = bytes_behind (counted_text member_text c.methods) (from_attributes c) method_bytes
 
   counted_bytes : {A : Type 0} (text : A → List ℕ) (xs : List A) (rest : List ℕ) → IsBytes (counted_text text xs ++ rest)
       → IsBytes (flat_map text xs)
@@ -96,7 +99,7 @@ module _ (c : ClassData) (fits : IsClass c) (bytes : IsBytes (class_text c)) (d 
   carries_fields = carries_counted c.pool d new small P texts (member_step Field c.pool) (member_step Field d) member_text
       (moved_member c.pool new Field) (λ m. IsMember c.pool false m × IsBytes (member_text m)) (IsMember d false)
       (carries_member c.pool d new small P texts Field) c.fields fits.fields.0 (each_bytes member_text (IsMember c.pool false)
-      c.fields fits.fields.1 (counted_bytes member_text c.fields from_methods field_bytes))
+      c.fields fits.fields.1 (counted_bytes member_text c.fields (from_methods c) field_bytes))
 
   carries_methods : Carries new small P (later 2 (each (member_step Method c.pool) c.methods))
       (later 2 (each (member_step Method d) moved.methods)) (counted_text member_text c.methods)
@@ -104,7 +107,7 @@ module _ (c : ClassData) (fits : IsClass c) (bytes : IsBytes (class_text c)) (d 
   carries_methods = carries_counted c.pool d new small P texts (member_step Method c.pool) (member_step Method d) member_text
       (moved_member c.pool new Method) (λ m. IsMember c.pool true m × IsBytes (member_text m)) (IsMember d true)
       (carries_member c.pool d new small P texts Method) c.methods fits.methods.0 (each_bytes member_text (IsMember c.pool true)
-      c.methods fits.methods.1 (counted_bytes member_text c.methods from_attributes method_bytes))
+      c.methods fits.methods.1 (counted_bytes member_text c.methods (from_attributes c) method_bytes))
 
   carries_attributes : Carries new small P (later 2 (each (attribute_step Class c.pool) c.attributes))
       (later 2 (each (attribute_step Class d) moved.attributes)) (counted_text attribute_text c.attributes)
@@ -127,33 +130,19 @@ module _ (c : ClassData) (fits : IsClass c) (bytes : IsBytes (class_text c)) (d 
   abbrev pub InterfacesHold : Type 0
   InterfacesHold = FitsCounted (λ i. i < 2 ^ 16) moved.interfaces × FieldsHold
 
-  abbrev new_attributes : List ℕ
-  new_attributes = counted_text attribute_text moved.attributes ++ []
-
-  abbrev new_methods : List ℕ
-  new_methods = counted_text member_text moved.methods ++ new_attributes
-
-  abbrev new_fields : List ℕ
-  new_fields = counted_text member_text moved.fields ++ new_methods
-
-  abbrev new_interfaces : List ℕ
-  new_interfaces = counted_text u2 moved.interfaces ++ new_fields
-
-  carries_members : Carries new small P (steps (later 2 (each (member_step Field c.pool) c.fields)
-      ∷ later 2 (each (member_step Method c.pool) c.methods) ∷ later 2 (each (attribute_step Class c.pool) c.attributes) ∷ []))
-      (steps (later 2 (each (member_step Field d) moved.fields) ∷ later 2 (each (member_step Method d) moved.methods)
-      ∷ later 2 (each (attribute_step Class d) moved.attributes) ∷ [])) from_fields new_fields FieldsHold
+  carries_members : Carries new small P (steps (member_steps c.pool c)) (steps (member_steps d moved)) (from_fields c) (from_fields moved)
+      FieldsHold
   carries_members =
       carries_cons new small P (later 2 (each (member_step Field c.pool) c.fields))
       (later 2 (each (member_step Field d) moved.fields)) (later 2 (each (member_step Method c.pool) c.methods)
       ∷ later 2 (each (attribute_step Class c.pool) c.attributes) ∷ []) (later 2 (each (member_step Method d) moved.methods)
       ∷ later 2 (each (attribute_step Class d) moved.attributes) ∷ []) (counted_text member_text c.fields)
-      (counted_text member_text moved.fields) from_methods new_methods (FitsCounted (IsMember d false) moved.fields) MethodsHold
+      (counted_text member_text moved.fields) (from_methods c) (from_methods moved) (FitsCounted (IsMember d false) moved.fields) MethodsHold
       carries_fields
       (carries_cons new small P (later 2 (each (member_step Method c.pool) c.methods))
       (later 2 (each (member_step Method d) moved.methods)) (later 2 (each (attribute_step Class c.pool) c.attributes) ∷ [])
       (later 2 (each (attribute_step Class d) moved.attributes) ∷ []) (counted_text member_text c.methods)
-      (counted_text member_text moved.methods) from_attributes new_attributes (FitsCounted (IsMember d true) moved.methods)
+      (counted_text member_text moved.methods) (from_attributes c) (from_attributes moved) (FitsCounted (IsMember d true) moved.methods)
       AttributesHold
       carries_methods
       (carries_cons new small P (later 2 (each (attribute_step Class c.pool) c.attributes))
@@ -161,38 +150,21 @@ module _ (c : ClassData) (fits : IsClass c) (bytes : IsBytes (class_text c)) (d 
       (counted_text attribute_text moved.attributes) [] [] (FitsCounted (IsAttribute d false) moved.attributes) (Unit {0})
       carries_attributes (carries_nil new small P)))
 
-  abbrev from_this : List Step
-  from_this = class_parts c fits
-
   pub carries_class : Carries new small P (steps (passes 2 ∷ class_parts c fits)) (steps (passes 2 ∷ new_parts)) (behind_pool c)
       (behind_pool moved) (Unit {0} × (P c.this_class × (P c.super_class × InterfacesHold)))
   carries_class =
       carries_cons new small P (passes 2) (passes 2) (class_parts c fits) new_parts (u2 c.access) (u2 c.access) (u2 c.this_class
-      ++ (u2 c.super_class ++ from_interfaces)) (u2 moved.this_class ++ (u2 moved.super_class ++ new_interfaces)) (Unit {0})
+      ++ (u2 c.super_class ++ from_interfaces c)) (u2 moved.this_class ++ (u2 moved.super_class ++ from_interfaces moved)) (Unit {0})
       (P c.this_class × (P c.super_class × InterfacesHold))
       (carries_passes new small P 2 (u2 c.access) refl)
-      (carries_cons new small P (notes false c.this_class) (notes false moved.this_class) (notes true c.super_class ∷ behind_super)
-      (notes true moved.super_class ∷ new_behind_super) (u2 c.this_class) (u2 moved.this_class) (u2 c.super_class
-      ++ from_interfaces) (u2 moved.super_class ++ new_interfaces) (P c.this_class) (P c.super_class × InterfacesHold)
+      (carries_cons new small P (notes false c.this_class) (notes false moved.this_class) (notes true c.super_class ∷ interface_steps c.pool c)
+      (notes true moved.super_class ∷ interface_steps d moved) (u2 c.this_class) (u2 moved.this_class) (u2 c.super_class
+      ++ from_interfaces c) (u2 moved.super_class ++ from_interfaces moved) (P c.this_class) (P c.super_class × InterfacesHold)
       (carries_notes new small P false c.this_class fits.this_class)
-      (carries_cons new small P (notes true c.super_class) (notes true moved.super_class) behind_super new_behind_super
-      (u2 c.super_class) (u2 moved.super_class) from_interfaces new_interfaces (P c.super_class) InterfacesHold
+      (carries_cons new small P (notes true c.super_class) (notes true moved.super_class) (interface_steps c.pool c) (interface_steps d moved)
+      (u2 c.super_class) (u2 moved.super_class) (from_interfaces c) (from_interfaces moved) (P c.super_class) InterfacesHold
       (carries_notes new small P true c.super_class fits.super_class)
       (carries_cons new small P (later 2 (each (notes false) c.interfaces)) (later 2 (each (notes false) moved.interfaces))
-      member_steps new_member_steps (counted_text u2 c.interfaces) (counted_text u2 moved.interfaces) from_fields new_fields
+      (member_steps c.pool c) (member_steps d moved) (counted_text u2 c.interfaces) (counted_text u2 moved.interfaces) (from_fields c) (from_fields moved)
       (FitsCounted (λ i. i < 2 ^ 16) moved.interfaces) FieldsHold
       carries_interfaces carries_members)))
-    where
-      member_steps : List Step
-      member_steps = later 2 (each (member_step Field c.pool) c.fields) ∷ later 2 (each (member_step Method c.pool) c.methods)
-          ∷ later 2 (each (attribute_step Class c.pool) c.attributes) ∷ []
-
-      new_member_steps : List Step
-      new_member_steps = later 2 (each (member_step Field d) moved.fields) ∷ later 2 (each (member_step Method d) moved.methods)
-          ∷ later 2 (each (attribute_step Class d) moved.attributes) ∷ []
-
-      behind_super : List Step
-      behind_super = later 2 (each (notes false) c.interfaces) ∷ member_steps
-
-      new_behind_super : List Step
-      new_behind_super = later 2 (each (notes false) moved.interfaces) ∷ new_member_steps

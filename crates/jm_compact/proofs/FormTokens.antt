@@ -1,17 +1,18 @@
 -- What a form takes is the text of some tokens; with other numbers, and from another start, it gives
 -- the sites of the changed tokens: one law for each way to make forms.
-use Rattle.std.proofs.Common.{◌≡◌, ℕ, zero, suc, ◌+◌, ◌*◌, ◌%◌, ◌^◌, ◌<◌, Bool, true, false, cond, List, []}
+use Rattle.std.proofs.Common.{◌≡◌, ℕ, zero, suc, ◌+◌, ◌*◌, ◌^◌, ◌<◌, Bool, true, false, cond, List, []}
 use Rattle.std.proofs.Common.{◌∷◌, ◌++◌, length, map, replicate, Option, Some, None, Ok, refl, sym, ap, ◌∙◌}
 use Rattle.std.proofs.Common.{subst, arith, append_assoc, length-append}
 use Rattle.std.proofs.lemmas.List.{append-nil}
 use Rattle.std.specs.Int.{Width, w8, to_be_bytes}
 use Rattle.std.specs.Prelude.{◌==◌}
+use Rattle.jm_class.specs.Layouts.{U1, U2}
 use Rattle.jm_class.specs.Readings.{Left, Reading, value, continued, and_then, number}
-use Rattle.jm_class.proofs.ReadingLaws.{IsBytes, bytes_behind, same_left, same_value, Passed, passed, Took, number8-lawful, number16-lawful}
+use Rattle.jm_class.proofs.ReadingLaws.{IsBytes, bytes_behind, same_left, same_value, Passed, passed, number-back}
 use Rattle.jm_poolmap.specs.declared.site.FoundSite.{FoundSite}
 use Rattle.jm_poolmap.specs.Forms.{NoForm, Form, Rows, unfit, without, site_of_width, in_order, counted}
 use Rattle.jm_poolmap.specs.Forms.{at_most, run, form_if, row_of, by_byte}
-use Rattle.jm_poolmap.proofs.Following.{part_front, number16_front}
+use Rattle.jm_poolmap.proofs.Following as following
 use Rattle.jm_compact.specs.Pieces.{Plain, Number, width, size}
 use Rattle.jm_compact.proofs.LocalReadings.{TookLocal, IsLocal, number_local}
 use Rattle.jm_compact.proofs.Tokens.{Token, token_text, found_from, changed, Fit, IsSmall, token_text-append}
@@ -203,16 +204,13 @@ module _ (Behind : List ℕ → Type 0) where
 number_front : (wide : Bool) (place n : ℕ) (rest : List ℕ) → n < 2 ^ (8 * size wide)
     → number unfit (width wide) (record { place = place; bytes = to_be_bytes (width wide) n ++ rest })
     ≡ Ok (n, record { place = place + size wide; bytes = rest })
-number_front true place n rest below = number16_front place n rest below
-number_front false place n rest below =
-    let bytes = part_front 1 place (to_be_bytes w8 n) rest refl in
-    let same : n % 256 ≡ n = omega (arith, below) in
-    rw (bytes, same) refl
+number_front true = following.number_front U2
+number_front false = following.number_front U1
 
 number_back : (wide : Bool) (left next : Left) (n : ℕ) → IsBytes left.bytes → number unfit (width wide) left ≡ Ok (n, next)
-    → Took (to_be_bytes (width wide)) (λ n. n < 2 ^ (8 * size wide)) left n next
-number_back true = (number16-lawful unfit).back
-number_back false = (number8-lawful unfit).back
+    → (n < 2 ^ (8 * size wide)) × (left.bytes ≡ to_be_bytes (width wide) n ++ next.bytes)
+number_back true = number-back unfit U2
+number_back false = number-back unfit U1
 
 pub number_size : (wide : Bool) (n : ℕ) → length (to_be_bytes (width wide) n) ≡ size wide
 number_size true n = refl
@@ -234,11 +232,11 @@ site_tells wide optional start n found all new next bytes behind e =
         let took = number_back wide here got.middle got.first bytes got.is in
         let sites = same_value {F = NoForm} (found ++ at start got.first ∷ []) new got.middle next got.rest in
         let left = same_left {F = NoForm} (found ++ at start got.first ∷ []) new got.middle next got.rest in
-        let front = number_front wide (start + n) got.first got.middle.bytes took.fits in
+        let front = number_front wide (start + n) got.first got.middle.bytes took.0 in
         let middle : record { place = (start + n) + size wide; bytes = got.middle.bytes } ≡ got.middle =
         same_left {F = NoForm} got.first got.first (record { place = (start + n) + size wide; bytes = got.middle.bytes })
         got.middle (sym front ∙ ap (λ t. number unfit (width wide) (record { place = start + n; bytes = t }))
-        (sym took.bytes) ∙ got.is) in
+        (sym took.1) ∙ got.is) in
         let text : (m : ℕ) → to_be_bytes (width wide) m ++ [] ≡ to_be_bytes (width wide) m = λ m. append-nil (to_be_bytes (width wide) m) in
         let size_is : length (to_be_bytes (width wide) got.first ++ []) ≡ size wide = ap length (text got.first)
         ∙ number_size wide got.first in
@@ -247,13 +245,13 @@ site_tells wide optional start n found all new next bytes behind e =
         record {
           tokens = Number wide (optional, got.first) ∷ [];
           rest = got.middle.bytes;
-          fit = (took.fits, tt);
-          bytes = took.bytes ∙ ap (λ t. t ++ got.middle.bytes) (sym (text got.first));
+          fit = (took.0, tt);
+          bytes = took.1 ∙ ap (λ t. t ++ got.middle.bytes) (sym (text got.first));
           left = sym left ∙ sym middle ∙ ap (λ m. record { place = m; bytes = got.middle.bytes }) (place start);
           sites = sym sites;
           again = λ number small other met more behind.
               let less = small got.first in
-              let below : number got.first < 2 ^ (8 * size wide) = let fits = took.fits in omega (arith, less, fits) in
+              let below : number got.first < 2 ^ (8 * size wide) = let fits = took.0 in omega (arith, less, fits) in
               ap (λ t. site_of_width (width wide) wide optional met (record { place = other + n; bytes = t ++ more }))
               (text (number got.first))
               ∙ ap (λ o. continued o (λ number. value (met ++ at other number ∷ []))) (number_front wide (other + n)

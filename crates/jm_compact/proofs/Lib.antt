@@ -7,6 +7,7 @@ pub mod CutLaws
 pub mod FormTokens
 pub mod FormsTold
 pub mod KeptSlots
+pub mod KeptTexts
 pub mod LocalReadings
 pub mod MovedParts
 pub mod Names

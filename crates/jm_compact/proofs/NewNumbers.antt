@@ -36,9 +36,6 @@ kept_before-all (false ∷ flags) all (suc place) within = let first : false ≡
 
 -- New numbers
 
-pub new_number-none : (flags : List Bool) → new_number flags 0 ≡ 0
-new_number-none flags = refl
-
 -- the number of a constant, by the place of its slot
 pub new_number-at : (flags : List Bool) (place : ℕ) → new_number flags (place + 1) ≡ 1 + kept_before flags place
 new_number-at flags place =

@@ -8,8 +8,8 @@ use Rattle.jm_bytes.proofs.Choice.{same_some}
 use Rattle.jm_bytes.proofs.Members.{contains_map, from_map}
 use Rattle.jm_class.specs.Classes.{SlotData, Constant, Hole, IsPoolFrom, FitsTag, slot_at}
 use Rattle.jm_poolmap.specs.Live.{Names, Leads}
-use Rattle.jm_poolmap.specs.Sites.{rank, named_by, rank_at, is_some_below, names_lower}
-use Rattle.jm_compact.specs.Compact.{name_sites, new_number, renamed, kept, compact_pool}
+use Rattle.jm_poolmap.specs.Sites.{rank, name_sites, named_by, rank_at, is_some_below, names_lower}
+use Rattle.jm_compact.specs.Compact.{new_number, renamed, kept, compact_pool}
 use Rattle.jm_compact.specs.Meaning.{slot_tree, tree}
 use Rattle.jm_compact.specs.Pieces.{Piece, cut, put_for_all}
 use Rattle.jm_compact.proofs.KeptSlots.{IsKept, slot_of_number, kept_from, KeptFrom, kept_here, kept_slot, kept_rank, fits_at}

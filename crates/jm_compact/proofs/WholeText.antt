@@ -3,11 +3,12 @@ use Rattle.std.proofs.Common.{◌≡◌, ℕ, ◌≤◌, List, Option, Some, Non
 use Rattle.std.proofs.Common.{length, Bool}
 use Rattle.jm_bytes.specs.declared.faults.Or.{Or}
 use Rattle.jm_bytes.specs.declared.faults.Or.TheVariants.{Fault, Memory}
+use Rattle.jm_bytes.specs.Results.{IfAnswered}
 use Rattle.jm_class.specs.declared.class.ClassFault.{ClassFault}
 use Rattle.jm_class.specs.Classes.{ClassData, class_text, ReadsAs, IsClass}
-use Rattle.jm_class.specs.ComputedClass.{fault_of}
+use Rattle.jm_class.specs.Layouts.{fault_of}
 use Rattle.jm_class.specs.Releases.{IsReadFor, ReadsFor, class_for, fault_for, newest_major}
-use Rattle.jm_class.proofs.ComputedClassLaws.{reads_once}
+use Rattle.jm_class.proofs.ClassLaws.{reads_once}
 use Rattle.jm_class.proofs.ReleaseLaws.{reads-class_for}
 use Rattle.jm_class.proofs.ReadingLaws.{IsBytes}
 use Rattle.jm_poolmap.specs.declared.site.Site.{Site}
@@ -137,6 +138,22 @@ refused_text release bytes fault is = go (class_for release bytes) refl is
     go (Ok c) e found = cc
     go (Err other) e found = cc
 
+-- what is due of bytes that give no text
+compacts_none : (release : ℕ) (bytes : List ℕ) (error : Or ClassFault)
+    → IfAnswered (λ (r : Result (List ℕ) ClassFault). compact_for release bytes ≡ r) (Err error)
+    → ((fault : ClassFault) → ◌≡◌ {A = Result (List ℕ) (Or ClassFault)} (Err error) (Err (Fault fault)) → fault_for release bytes ≡ Some fault)
+    → CompactsFor release bytes (Err error)
+compacts_none release bytes error computed fault = record {
+  computed = computed;
+  rule = tt;
+  says = tt;
+  stays = tt;
+  again = tt;
+  shorter = tt;
+  no_fault = tt;
+  fault = fault;
+}
+
 pub compacts_not : (release : ℕ) (bytes : List ℕ) (error : Or ClassFault) (result : Result (List ℕ) (Or ClassFault))
     → IsReadFor release bytes (Err error) → IsErrAnd result (λ is. is ≡ error) → CompactsFor release bytes result
 compacts_not release bytes error (Ok text) read is = absurd is
@@ -144,23 +161,6 @@ compacts_not release bytes Memory (Err (Fault found)) read is = cc
 compacts_not release bytes (Fault fault) (Err (Fault found)) read is =
     let same : fault ≡ found = cc in
     let bad : fault_for release bytes ≡ Some found = read.fault fault refl ∙ ap (λ f. Some f) same in
-    record {
-      computed = refused_text release bytes found bad;
-      rule = tt;
-      says = tt;
-      stays = tt;
-      again = tt;
-      shorter = tt;
-      no_fault = tt;
-      fault = λ other e. bad ∙ let these : found ≡ other = cc in ap (λ f. Some f) these;
-    }
-compacts_not release bytes error (Err Memory) read is = record {
-  computed = tt;
-  rule = tt;
-  says = tt;
-  stays = tt;
-  again = tt;
-  shorter = tt;
-  no_fault = tt;
-  fault = λ fault e. cc;
-}
+    compacts_none release bytes (Fault found) (refused_text release bytes found bad)
+    (λ other e. bad ∙ let these : found ≡ other = cc in ap (λ f. Some f) these)
+compacts_not release bytes error (Err Memory) read is = compacts_none release bytes Memory tt (λ fault e. cc)

@@ -1,6 +1,6 @@
 -- Classes without the constants that aren't live, the others numbered anew in their order (this
 -- project's rule; what a constant pool is says JVMS 4.4).
-use Rattle.std.specs.Prelude.{ℕ, ◌≡◌, ◌+◌, ◌-◌, ◌==◌, Bool, true, List, [], ◌++◌, length, map}
+use Rattle.std.specs.Prelude.{ℕ, ◌≡◌, ◌+◌, ◌-◌, ◌==◌, Bool, List, [], ◌++◌, length, map}
 use Rattle.std.specs.Prelude.{filter, take, drop, Option, Some, None, Result, Ok, Err}
 use Rattle.std.specs.Prelude.{if◌then◌else◌}
 use Rattle.std.specs.List.{zip}
@@ -11,7 +11,7 @@ use Rattle.jm_poolmap.specs.declared.site.FoundSite.{FoundSite}
 use Rattle.jm_poolmap.specs.declared.site.Site.{Site}
 use Rattle.jm_poolmap.specs.ComputedLive.{flags_of}
 use Rattle.jm_poolmap.specs.Live.{TellsLive}
-use Rattle.jm_poolmap.specs.Sites.{name_places, found_in, sites_of}
+use Rattle.jm_poolmap.specs.Sites.{name_sites, found_in, sites_of}
 use Rattle.jm_compact.specs.Pieces.{renumbered}
 
 -- Numbers, by a flag for each slot that says whether it is kept
@@ -25,10 +25,6 @@ abbrev pub new_number : List Bool → ℕ → ℕ
 new_number flags index = if index == 0 then 0 else 1 + kept_before flags (index - 1)
 
 -- Constants
-
--- where a constant's body names others
-abbrev pub name_sites : ℕ → List Site
-name_sites tag = map (λ place. record { place = place; wide = true }) (name_places tag)
 
 -- a constant that names others by new numbers
 abbrev pub renamed : (ℕ → ℕ) → SlotData → SlotData

@@ -4,9 +4,9 @@ use Rattle.jm_class.specs.Classes.{SlotData, Constant, Hole, ClassData, slot_at}
 use Rattle.jm_class.specs.Classes.{ReadsAs}
 use Rattle.jm_poolmap.specs.declared.site.Site.{Site}
 use Rattle.jm_poolmap.specs.Live.{IsLive, number_of}
-use Rattle.jm_poolmap.specs.Sites.{sites_of}
+use Rattle.jm_poolmap.specs.Sites.{name_sites, sites_of}
 use Rattle.jm_compact.specs.Pieces.{Piece, cut, put_for_all}
-use Rattle.jm_compact.specs.Compact.{name_sites, front, pool_end, back}
+use Rattle.jm_compact.specs.Compact.{front, pool_end, back}
 
 -- Trees of constants, at most so deep: the tag, and the body with a tree in the place of each
 -- number; or none, for 0

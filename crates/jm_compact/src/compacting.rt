@@ -11,7 +11,7 @@ use crate::pool::put_pool;
 use crate::sites::put_renumbered;
 use jm_bytes::{NoMemory, Or, Text, extend};
 use jm_class::{Class, ClassFault, DEFAULT_RELEASE, read_for};
-use jm_classout::put16;
+use jm_classout::{put16, slots_size};
 use jm_poolmap::{PoolMap, pool_map};
 use std::alloc::Global;
 
@@ -29,9 +29,11 @@ fn put_class(alloc: Global, bytes: &[u8], class: &Class, known: &PoolMap) -> Res
     let (front, _) = bytes.split_at(8);
     extend(&mut text, front)?;
     put16(&mut text, numbers.count())?;
-    let size = put_pool(&mut text, class.pool.as_slice(), flags, &numbers)?;
-    let (_, back) = bytes.split_at(10 + size);
-    put_renumbered(&mut text, known.sites.as_slice(), 10 + size, back, &numbers)?;
+    let pool = class.pool.as_slice();
+    put_pool(&mut text, pool, flags, &numbers)?;
+    let pool_end = 10 + slots_size(pool) as usize;
+    let (_, back) = bytes.split_at(pool_end);
+    put_renumbered(&mut text, known.sites.as_slice(), pool_end, back, &numbers)?;
     Ok(Text::from_vec(text))
 }
 

@@ -1,5 +1,5 @@
 -- The contents of an image in a file, which are read while files are made.
-use Rattle.std.proofs.Common.{◌≡◌, ◌≢◌, ◌≤◌, ◌<◌, ◌+◌, ◌⊎◌, inl, inr, ℕ, true, false, List, [], ◌∷◌, ◌++◌, drop, length}
+use Rattle.std.proofs.Common.{◌≡◌, ◌≢◌, ◌≤◌, ◌<◌, ◌+◌, ◌⊎◌, inl, inr, ℕ, true, false, List, [], ◌∷◌, ◌++◌, drop, length, rules}
 use Rattle.std.proofs.Common.{map, take, get_or, Option, None, Some, Result, Ok, Err, IsErrAnd, option_map, refl, sym, ap, subst}
 use Rattle.std.proofs.Common.{◌∙◌, arith, nat_eq, suc, zero, Bor}
 use Rattle.std.specs.Slice.{IsItemAt}
@@ -11,7 +11,6 @@ use Rattle.std.proofs.lemmas.List.{take-append-drop, length-take-le}
 use Rattle.std.proofs.lemmas.List.Elements.{All-cons, All-nil}
 use Rattle.std.proofs.lemmas.List.Sums.{sum_by_push, sum_by-append, sum_by-take-le}
 use Rattle.std.proofs.lemmas.Slice.Eq.{bytes_eq-Decides}
-use Rattle.jm_names.specs.UtfForms.{utf}
 use Rattle.jm_outside.specs.Files.{Files, part}
 use Rattle.jm_outside.specs.Made.{Elsewhere, MadeAll, MadePart, Writes, written}
 use Rattle.jm_outside.specs.Outcome.{Shows}
@@ -44,6 +43,12 @@ pub sizes_next : (ts : List TakenEntry) (i : ℕ) (t : TakenEntry) → i < lengt
 sizes_next ts i t within is =
     ap sizes (take_more ts i t within) ∙ sum_by_push (λ (t : TakenEntry). t.content.size) (take i ts) (get_or ts i t)
     ∙ ap (λ (u : TakenEntry). sizes (take i ts) + u.content.size) is
+
+-- which no more than all have
+pub size_within : (ts : List TakenEntry) (i : ℕ) (t : TakenEntry) → i < length ts → get_or ts i t ≡ t
+    → sizes (take i ts) + t.content.size ≤ sizes ts
+size_within ts i t within is =
+    omega (arith, sizes_next ts i t within is, sum_by-take-le (λ (t : TakenEntry). t.content.size) ts (i + 1))
 
 -- Making
 
@@ -154,9 +159,5 @@ below_begins (a ∷ dir) rest =
 
 -- no file below a directory has a path that doesn't begin with it
 pub not_below : (path dir : List ℕ) (ts : List TakenEntry) → starts_with nat_eq path dir ≡ false → false ≡ is_made_at path dir ts
-not_below path dir [] apart = refl
-not_below path dir (t ∷ ts) apart =
-    sym (or_from (bytes_eq (path_of dir t.name) path) (is_made_at path dir ts)
-    (false_from_ne_true (bytes_eq (path_of dir t.name) path) (λ same. false≢true (sym apart
-    ∙ ap (λ p. starts_with nat_eq p dir) (sym ((bytes_eq-Decides (path_of dir t.name) path).0 same)) ∙ below_begins dir (utf t.name))))
-    (sym (not_below path dir ts apart)))
+not_below path dir [] apart = search (rules)
+not_below path dir (t ∷ ts) apart = search (rules, nat_eq, false_from_ne_true, or_from, false≢true, bytes_eq-Decides, below_begins, (not_below path dir ts apart))

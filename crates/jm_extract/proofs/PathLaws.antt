@@ -1,5 +1,5 @@
 -- A name that may stand in an image is UTF-8 once its pairs of surrogates are characters.
-use Rattle.std.proofs.Common.{◌≡◌, ℕ, ◌+◌, ◌*◌, ◌-◌, ◌/◌, ◌%◌, ◌<◌, ◌≤◌, Bool, true, false, ◌==◌, nat_lt}
+use Rattle.std.proofs.Common.{◌≡◌, ℕ, ◌+◌, ◌*◌, ◌-◌, ◌/◌, ◌%◌, ◌<◌, ◌≤◌, Bool, true, false, ◌==◌, nat_lt, rules}
 use Rattle.std.proofs.Common.{List, [], ◌∷◌, ◌++◌, length, refl, sym, ap, subst, ◌∙◌, arith}
 use lib.Utf8.{scalar, low_scalar}
 use Rattle.std.specs.Str.{IsUtf8}
@@ -110,14 +110,7 @@ record InThree (a x : ℕ) : Type 0 where
   surrogate : a ≡ 0xED → x < 0xA0
 
 three_parts : (a x : ℕ) → begins_three a x ≡ true → InThree a x
-three_parts a x h = record {
-  above = grind (arith, nat_tests);
-  below = grind (arith, nat_tests);
-  high = grind (arith, nat_tests);
-  low = grind (arith, nat_tests);
-  overlong = λ e. grind (arith, nat_tests);
-  surrogate = λ e. grind (arith, nat_tests);
-}
+three_parts a x h = search (rules, nat_tests)
 
 -- A run of characters
 

@@ -1,11 +1,11 @@
 -- The refusal of entries, from those of their names and of their clashes.
-use Rattle.std.proofs.Common.{◌≡◌, ◌≤◌, ◌<◌, ◌+◌, ℕ, true, ◌||◌, nat_eq, List, [], ◌∷◌, ◌++◌, drop, get_or, length, map}
-use Rattle.std.proofs.Common.{Option, Some, None, option_map, refl, sym, subst, ap, ◌∙◌}
+use Rattle.std.proofs.Common.{◌≡◌, ◌≤◌, ◌<◌, ℕ, true, ◌||◌, nat_eq, List, [], ◌∷◌, drop, get_or, length, map, rules}
+use Rattle.std.proofs.Common.{Option, Some, None, refl, sym, subst, ap, ◌∙◌}
 use Rattle.std.proofs.lemmas.List.{drop_all, drop_more}
 use Rattle.std.specs.List.{starts_with}
 use Rattle.jm_bytes.proofs.Pairs.{pairs_map}
 use Rattle.jm_bytes.specs.ByteOrder.{is_before}
-use Rattle.jm_bytes.specs.Checks.{fault_if, first_fault}
+use Rattle.jm_bytes.specs.Checks.{first_fault}
 use Rattle.jm_names.specs.ByName.{Named, RisesByName}
 use Rattle.jm_names.specs.ComputedFault.{name_fault}
 use Rattle.jm_names.specs.declared.check.NameFault.{NameFault}
@@ -39,10 +39,8 @@ begins_bare front [] = refl
 begins_bare front (e ∷ es) = ap (λ o. starts_with nat_eq e.0 front || o) (begins_bare front es)
 
 clash_bare : (all es : List Named) → map (clash_refusal (map bare all)) (map bare es) ≡ map (clash_refusal all) es
-clash_bare all [] = refl
-clash_bare all (e ∷ es) =
-    ap (λ o. fault_if o (refusal.Clash e.0) ∷ map (clash_refusal (map bare all)) (map bare es)) (begins_bare (e.0 ++ 47 ∷ []) all)
-    ∙ ap (λ os. clash_refusal all e ∷ os) (clash_bare all es)
+clash_bare all [] = search (rules)
+clash_bare all (e ∷ es) = search (rules, begins_bare, (clash_bare all es))
 
 -- the refusal hangs on the names alone
 pub refused_alone : (b : List ℕ) (ts : List TakenEntry) → refusal_of (map name_alone ts) ≡ refusal_of (map (taken_as b) ts)
@@ -61,16 +59,7 @@ pub bad_name : (ts : List TakenEntry) (i : ℕ) (t : TakenEntry) (name : List �
     → first_bad_name (map name_alone (drop i ts)) ≡ first_bad_name (map name_alone ts)
     → Some (refusal.BadName name fault) ≡ refusal_of (map name_alone ts)
 unfolding refusal_of
-bad_name ts i t name fault within is own bad so_far =
-    let es = map name_alone ts in
-    let rest = map name_refusal (map name_alone (drop (i + 1) ts)) in
-    let first : Some (refusal.BadName name fault) ≡ first_bad_name (map name_alone (t ∷ drop (i + 1) ts)) =
-    ap (λ o. first_fault (option_map (refusal.BadName name) o ∷ rest)) bad
-    ∙ ap (λ (n : List ℕ). first_fault (name_refusal (n, []) ∷ rest)) own
-    in
-    let here = drop_more ts i t within ∙ ap (λ u. u ∷ drop (i + 1) ts) is in
-    ap (λ (o : Option Refusal). first_fault (o ∷ first_clash es ∷ []))
-    (first ∙ sym (ap (λ us. first_bad_name (map name_alone us)) here) ∙ so_far)
+bad_name ts i t name fault within is own bad so_far = search (rules, drop_more)
 
 alone : (o : Option Refusal) → o ≡ first_fault (o ∷ [])
 alone None = refl
@@ -82,8 +71,4 @@ pub refused_clash : (ts : List TakenEntry) (i : ℕ) (o : Option Refusal) → le
     → first_fault (o ∷ map (clash_refusal (map name_alone ts)) (map name_alone (drop i ts))) ≡ first_clash (map name_alone ts)
     → o ≡ refusal_of (map name_alone ts)
 unfolding refusal_of
-refused_clash ts i o all none so_far =
-    let es = map name_alone ts in
-    let last = ap (λ us. first_fault (o ∷ map (clash_refusal es) (map name_alone us))) (drop_all i ts all) in
-    alone o ∙ sym last ∙ so_far ∙ alone (first_clash es)
-    ∙ ap (λ (p : Option Refusal). first_fault (p ∷ first_clash es ∷ [])) (sym none)
+refused_clash ts i o all none so_far = search (rules, drop_all, alone)

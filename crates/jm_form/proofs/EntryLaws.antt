@@ -1,17 +1,14 @@
 -- The entries of an image: one slot more, what an entry is, and which of them can have a name.
-use Rattle.std.proofs.Common.{◌≡◌, ℕ, ◌+◌, ◌<◌, ◌≤◌, true, false, List, [], ◌∷◌, ◌++◌, length, append-nil}
-use Rattle.std.proofs.Common.{Option, Some, None, All, AllPairs, Contains, option_map, refl, sym, ap, ◌∙◌}
+use Rattle.std.proofs.Common.{◌≡◌, ℕ, ◌<◌, true, List, [], ◌∷◌, length}
+use Rattle.std.proofs.Common.{Option, Some, None, AllPairs, Contains, option_map, refl, sym, ap, ◌∙◌}
 use Rattle.std.proofs.Common.{subst, arith}
 use Rattle.std.proofs.lemmas.Bool.{eqb-true, eq-eqb}
-use Rattle.std.proofs.lemmas.List.Elements.{filter-append, filter_map-append}
-use Rattle.std.proofs.lemmas.List.FromFn.{length-range_with_len}
 use Rattle.std.proofs.lemmas.List.Kept.{AllPairs-filter}
-use Rattle.std.specs.List.{filter, filter_map, cons_option, range_with_len}
+use Rattle.std.specs.List.{filter, filter_map, range_with_len}
 use Rattle.jm_bytes.proofs.Choice.{same_some}
-use Rattle.jm_bytes.proofs.Members.{all_from_contains, contains_filter, contains_filter_map, contains_range}
-use Rattle.jm_bytes.proofs.Members.{from_filter, from_filter_map, from_range, length_filter}
-use Rattle.jm_bytes.proofs.Members.{length_filter_map}
-use Rattle.jm_bytes.proofs.Pairs.{pairs_filter_map, range_more, range_rises}
+use Rattle.jm_bytes.proofs.Members.{contains_filter, contains_filter_map, contains_range}
+use Rattle.jm_bytes.proofs.Members.{from_filter, from_filter_map, from_range}
+use Rattle.jm_bytes.proofs.Pairs.{pairs_filter_map, range_rises}
 use Rattle.jm_form.specs.declared.container.Header.{Header}
 use Rattle.jm_form.specs.declared.rows.Row.{Row}
 use Rattle.jm_form.specs.Entries.{Entry, entries, entry_at, entry_of, is_reached, name_of, row_at}
@@ -20,52 +17,9 @@ use Rattle.jm_form.specs.Table.{is_slot, probe}
 
 -- One slot more
 
--- the entries of the first slots
-abbrev pub entries_below : List ℕ → Header → ℕ → List Entry
-entries_below b h n = filter (is_reached b h) (filter_map (entry_at b h) (range_with_len 0 n))
-
 -- the entry of one slot
 abbrev pub entry_alone : List ℕ → Header → ℕ → List Entry
 entry_alone b h n = filter (is_reached b h) (filter_map (entry_at b h) (n ∷ []))
-
-pub entries_all : (b : List ℕ) (h : Header) → entries_below b h h.length ≡ entries b h
-entries_all b h = refl
-
-pub entries_more : (b : List ℕ) (h : Header) (n : ℕ) → entries_below b h (n + 1) ≡ entries_below b h n ++ entry_alone b h n
-entries_more b h n =
-    let read = filter_map-append (entry_at b h) (range_with_len 0 n) (n ∷ []) in
-    let reached = filter-append (is_reached b h) (filter_map (entry_at b h) (range_with_len 0 n)) (filter_map (entry_at b h) (n ∷ [])) in
-    let last : 0 + n ≡ n = omega arith in
-    ap (λ ks. filter (is_reached b h) (filter_map (entry_at b h) ks)) (range_more 0 n ∙ ap (λ k. range_with_len 0 n ++ k ∷ []) last)
-    ∙ ap (filter (is_reached b h)) read ∙ reached
-
--- the entries with those that a row makes of a slot, or with none
-abbrev with_row : List ℕ → Header → ℕ → Option Row → List Entry
-with_row b h n row = entries_below b h n ++ filter (is_reached b h) (cons_option (option_map (entry_of b h n) row) [])
-
-row_more : (b : List ℕ) (h : Header) (n : ℕ) (row : Option Row) → row_at b h n ≡ row → entries_below b h (n + 1) ≡ with_row b h n row
-row_more b h n row there = entries_more b h n ∙ ap (with_row b h n) there
-
-pub entry_reached : (b : List ℕ) (h : Header) (n : ℕ) (row : Row) → row_at b h n ≡ Some row → is_reached b h (entry_of b h n row)
-    ≡ true → entries_below b h (n + 1) ≡ entries_below b h n ++ entry_of b h n row ∷ []
-entry_reached b h n row there reached = let more = row_more b h n (Some row) there in rw reached at more
-
-pub entry_spare_blank : (b : List ℕ) (h : Header) (n : ℕ) → row_at b h n ≡ None → entries_below b h (n + 1) ≡ entries_below b h n
-entry_spare_blank b h n there = row_more b h n None there ∙ append-nil (entries_below b h n)
-
-pub entry_spare : (b : List ℕ) (h : Header) (n : ℕ) (row : Row) → row_at b h n ≡ Some row → is_reached b h (entry_of b h n row)
-    ≡ false → entries_below b h (n + 1) ≡ entries_below b h n
-entry_spare b h n row there spare =
-    let more = row_more b h n (Some row) there in
-    let same : entries_below b h (n + 1) ≡ entries_below b h n ++ [] = rw spare at more in
-    same ∙ append-nil (entries_below b h n)
-
-pub length-entries_below : (b : List ℕ) (h : Header) (n : ℕ) → length (entries_below b h n) ≤ n
-length-entries_below b h n =
-    let reached = length_filter (is_reached b h) (filter_map (entry_at b h) (range_with_len 0 n)) in
-    let read = length_filter_map (entry_at b h) (range_with_len 0 n) in
-    let slots = length-range_with_len 0 n in
-    omega arith
 
 -- What an entry is
 
@@ -136,10 +90,6 @@ slots_rise b h =
         omega arith
 
 -- Names
-
--- the name of each entry leads to its slot
-pub entry_led : (b : List ℕ) (h : Header) → All (λ e. probe b h e.name ≡ Some e.slot) (entries b h)
-entry_led b h = all_from_contains (λ e. probe b h e.name ≡ Some e.slot) (entries b h) (λ e there. (entry_from b h e there).led)
 
 -- two entries with the same name stand in the same slot, and are the same
 pub names_differ : (b : List ℕ) (h : Header) (e f : Entry) → Contains (entries b h) e → Contains (entries b h) f → e.name ≡ f.name

@@ -1,5 +1,5 @@
 -- The fault of a slot, by what its offset word leads to.
-use Rattle.std.proofs.Common.{◌≡◌, ℕ, ◌+◌, ◌-◌, ◌≤◌, ◌⊎◌, inl, inr, ◌&&◌, ◌==◌, not, Bool, true, false, cond}
+use Rattle.std.proofs.Common.{◌≡◌, ℕ, ◌+◌, ◌-◌, ◌≤◌, ◌&&◌, ◌==◌, not, Bool, true, false, cond}
 use Rattle.std.proofs.Common.{List, [], ◌∷◌, length, Option, Some, None, is_none, refl, sym, ap, ◌∙◌, arith}
 use Rattle.std.proofs.lemmas.Bool.{eqb-true, not-false}
 use Rattle.std.proofs.lemmas.Bool.Decides.{nat_tests}
@@ -30,35 +30,6 @@ checks_from i section size inside read =
     ∷ fault_if (is_none read) (damage.Row i)
     ∷ entry_checks i section size (spelled_row (slot_row_from inside read))
 
--- a row that was read is blank or spelled
-blank_or_spelled : (r : Row × ℕ) → (row_read (Some r) ≡ slot_row.Blank) ⊎ (row_read (Some r) ≡ slot_row.Spelled r.0)
-blank_or_spelled r = go (r.1 == 1)
-  where
-    go : (b : Bool) → (cond b slot_row.Blank (slot_row.Spelled r.0) ≡ slot_row.Blank)
-        ⊎ (cond b slot_row.Blank (slot_row.Spelled r.0) ≡ slot_row.Spelled r.0)
-    go true = inl refl
-    go false = inr refl
-
-outside_fault : (i : ℕ) (section : List ℕ) (size : ℕ) (inside : Bool) (read : Option (Row × ℕ)) → slot_row_from inside read
-    ≡ slot_row.Outside → first_fault (checks_from i section size inside read) ≡ Some (damage.Offset i)
-outside_fault i section size false read e = refl
-outside_fault i section size true None e = cc
-outside_fault i section size true (Some r) e =
-    elim (blank_or_spelled r) [
-      | inl blank ↦ let both = sym blank ∙ e in cc
-      | inr spelled ↦ let both = sym spelled ∙ e in cc
-    ]
-
-unspelled_fault : (i : ℕ) (section : List ℕ) (size : ℕ) (inside : Bool) (read : Option (Row × ℕ)) → slot_row_from inside read
-    ≡ slot_row.Unspelled → first_fault (checks_from i section size inside read) ≡ Some (damage.Row i)
-unspelled_fault i section size false read e = cc
-unspelled_fault i section size true None e = refl
-unspelled_fault i section size true (Some r) e =
-    elim (blank_or_spelled r) [
-      | inl blank ↦ let both = sym blank ∙ e in cc
-      | inr spelled ↦ let both = sym spelled ∙ e in cc
-    ]
-
 blank_fault : (i : ℕ) (section : List ℕ) (size : ℕ) (inside : Bool) (read : Option (Row × ℕ)) → slot_row_from inside read
     ≡ slot_row.Blank → first_fault (checks_from i section size inside read) ≡ None
 blank_fault i section size false read e = cc
@@ -73,14 +44,6 @@ spelled_fault i section size true None row e = cc
 spelled_fault i section size true (Some r) row e = ap (λ s. first_fault (entry_checks i section size (spelled_row s))) e
 
 -- The fault of a slot, with contents of so many bytes
-
-pub slot_outside : (b : List ℕ) (h : Header) (size i : ℕ) → row_of_slot b h i ≡ slot_row.Outside → slot_fault_with b h size i
-    ≡ Some (damage.Offset i)
-slot_outside b h size i e = outside_fault i (strings b h) size (nat_lt (offset_word b h i) h.locations) (row_front (row_text b h i)) e
-
-pub slot_unspelled : (b : List ℕ) (h : Header) (size i : ℕ) → row_of_slot b h i ≡ slot_row.Unspelled → slot_fault_with b h size i
-    ≡ Some (damage.Row i)
-slot_unspelled b h size i e = unspelled_fault i (strings b h) size (nat_lt (offset_word b h i) h.locations) (row_front (row_text b h i)) e
 
 pub slot_blank_with : (b : List ℕ) (h : Header) (size i : ℕ) → row_of_slot b h i ≡ slot_row.Blank → slot_fault_with b h size i ≡ None
 slot_blank_with b h size i e = blank_fault i (strings b h) size (nat_lt (offset_word b h i) h.locations) (row_front (row_text b h i)) e

@@ -19,9 +19,7 @@ range_split n m within =
     ∙ ap (λ (k : ℕ). range_with_len 0 n ++ range_with_len k (m - n)) start
 
 range_next : (n : ℕ) → range_with_len 0 (n + 1) ≡ range_with_len 0 n ++ n ∷ []
-range_next n =
-    let start : 0 + n ≡ n = omega arith in
-    range_more 0 n ∙ ap (λ (k : ℕ). range_with_len 0 n ++ k ∷ []) start
+range_next n = grind (arith, range_more)
 
 pub name_next : (n : ℕ) → module_names n ++ module_name n ∷ [] ≡ module_names (n + 1)
 name_next n = sym (ap (map module_name) (range_next n) ∙ map-append module_name (range_with_len 0 n) (n ∷ []))
@@ -38,8 +36,7 @@ part_first first f m old new part = part_longer (first ∷ []) (map f (range_wit
 
 next_file : (first : List ℕ × List ℕ) (f : ℕ → List ℕ × List ℕ) (n : ℕ) → (first ∷ map f (range_with_len 0 n)) ++ f n ∷ []
     ≡ first ∷ map f (range_with_len 0 (n + 1))
-next_file first f n =
-    sym (ap (λ ks. first ∷ map f ks) (range_next n) ∙ ap (λ fs. first ∷ fs) (map-append f (range_with_len 0 n) (n ∷ [])))
+next_file first f n = grind (arith, map-append, range_next)
 
 pub made_next : (first : List ℕ × List ℕ) (f : ℕ → List ℕ × List ℕ) (n : ℕ) (old now new : Option Files)
     → MadeAll (first ∷ map f (range_with_len 0 n)) old now → MadeAll (f n ∷ []) now new
@@ -66,9 +63,7 @@ part_next first f n m old now new inside done part =
 -- The files of each number
 
 next_files : (g : ℕ → Writes) (n : ℕ) → flat_map g (range_with_len 0 n) ++ g n ≡ flat_map g (range_with_len 0 (n + 1))
-next_files g n =
-    sym (ap (flat_map g) (range_next n) ∙ flat_map-append g (range_with_len 0 n) (n ∷ [])
-    ∙ ap (λ fs. flat_map g (range_with_len 0 n) ++ fs) (append-nil (g n)))
+next_files g n = grind (arith, append-nil, flat_map-append, range_next)
 
 pub all_next : (g : ℕ → Writes) (n : ℕ) (old now new : Option Files) → MadeAll (flat_map g (range_with_len 0 n)) old now
     → MadeAll (g n) now new → MadeAll (flat_map g (range_with_len 0 (n + 1))) old new

@@ -1,6 +1,6 @@
 -- The content that a look-up leads to, read from its file by the index.
 use Rattle.std.proofs.Common.{◌≡◌, ◌+◌, ◌-◌, ◌≤◌, ℕ, List, ◌++◌, length, take, drop, replicate, Option, Some, None}
-use Rattle.std.proofs.Common.{Result, Ok, Err, option_map, refl, sym, ap, ◌∙◌, subst, arith}
+use Rattle.std.proofs.Common.{Result, Ok, Err, option_map, refl, sym, ap, ◌∙◌, arith}
 use Rattle.std.proofs.lemmas.List.{length-append, length-drop, length-replicate, length-take, take_at, drop_at}
 use Rattle.jm_bytes.proofs.Choice.{same_ok}
 use Rattle.jm_filed.specs.Filed.{IsFiled}
@@ -14,7 +14,6 @@ use Rattle.jm_form.specs.Validity.{look}
 use Rattle.jm_form.proofs.LocalityLaws.{header_of_front, header_same}
 use Rattle.jm_form.proofs.Validity.{sound_valid}
 use Rattle.jm_outside.specs.Files.{Files}
-use Rattle.jm_outside.specs.Outcome.{Rose}
 use Rattle.jm_outside.specs.Shelves.{ShelfFailed, ShelfSeen}
 use Rattle.jm_reader.specs.Look.{SoundIn, head}
 use Rattle.jm_reader.proofs.HeadLaws.{head_is}
@@ -27,13 +26,13 @@ use Rattle.jm_inspect.specs.declared.stop.Stop.TheVariants as stop
 use Rattle.jm_inspect.specs.Cat.{content_of as content_found}
 use Rattle.jm_inspect.specs.FileParts.{Comes, IsFrontOf, IsOpenFront, IsPart, IsUnopened, LacksPart, ReadsPart}
 use Rattle.jm_inspect.specs.Outcome.{Outcome, cat_outcome, done, image_outcome, not_there, reading}
-use Rattle.jm_inspect.specs.Steps.{PutDoes, StepComesTo}
+use Rattle.jm_inspect.specs.Steps.{PutDoes, PutsOfFront, StepComesTo, WorkDoes}
 use Rattle.jm_inspect.specs.Works.{WorkComesTo}
 use Rattle.jm_inspect.specs.Sinks.{Seen}
 use Rattle.jm_inspect.specs.World.{world}
 use Rattle.jm_inspect.specs.Sought.{BeginsAt, IsContent, LookUp, ReadsContent, Seeks, row_size}
-use Rattle.jm_inspect.specs.Taken.{TakesFrom, front_size, sought_size}
-use Rattle.jm_inspect.proofs.FrontLaws.{front_there, never_lacks, of_work, opened, part_of, still_front, takes_opened, unopened}
+use Rattle.jm_inspect.specs.Taken.{TakesOfFront}
+use Rattle.jm_inspect.proofs.FrontLaws.{filed_there, front_there, never_lacks, of_work, opened, part_of, unopened}
 use Rattle.jm_inspect.proofs.StepLaws.{put_on_text}
 
 -- A file of an index, with a content
@@ -175,39 +174,47 @@ sought_unread told path front (Some row) given opened (place, begins, reads) =
 
 -- Of the image in the file of a path the content of a row is read
 
-module _ (path : List ℕ) (shelf mid new : ShelfSeen) (same : mid.told ≡ shelf.told) (kept : mid.faults ≡ shelf.faults)
-    (stays : new.told ≡ mid.told) (source out : Seen (List ℕ)) (front : Front) (opens : IsOpenFront shelf.told path front) where
+module _ (path : List ℕ) (shelf new : ShelfSeen) (stays : new.told ≡ shelf.told) (source out : Seen (List ℕ)) (front : Front)
+    (opens : IsOpenFront shelf.told path front) where
   -- what is put is due of a file with what was read
   pub content_put : (work : ImageWork) (b : List ℕ) (due : Outcome) (answer : Result (Unit {0}) Stop) (new_out : Seen (List ℕ))
-      → IsFiled front mid.told path b → new.faults ≡ mid.faults → due.session ≡ None → ((t : List ℕ) → image_outcome work b t ≡ due)
+      → IsFiled front shelf.told path b → new.faults ≡ shelf.faults → due.session ≡ None → ((t : List ℕ) → image_outcome work b t ≡ due)
       → PutDoes due answer out new_out
       → StepComesTo (WorkComesTo shelf.told source.told path work) reading answer (world shelf source out) (world new source new_out)
   content_put work b due answer new_out filed quiet alone is put =
-      opened (of_work work source) path shelf mid same source out kept front b answer (world new source new_out) opens filed
-      (put_on_text (image_outcome work b) due answer (world mid source out) (world new source new_out) put stays refl alone
+      opened (of_work work source) shelf.told path front b opens filed
+      (put_on_text (image_outcome work b) due answer (world shelf source out) (world new source new_out) put stays refl alone
       (λ ok. (quiet, refl)) is)
 
   -- it puts the content that was read, or complains
   pub cat_put : (name : List ℕ) (row : Option Row) (content shown : Option (List ℕ)) (answer : Result (Unit {0}) Stop)
-      (new_out : Seen (List ℕ)) → Seeks (λ b. look b name) front row → ReadsContent mid.told path front row (Ok content)
-      → new.faults ≡ mid.faults → content ≡ shown → PutDoes (cat_of name shown) answer out new_out
+      (new_out : Seen (List ℕ)) → Seeks (λ b. look b name) front row → ReadsContent shelf.told path front row (Ok content)
+      → new.faults ≡ shelf.faults → content ≡ shown → PutDoes (cat_of name shown) answer out new_out
       → StepComesTo (WorkComesTo shelf.told source.told path (work_of.Cat name)) reading answer (world shelf source out)
       (world new source new_out)
   cat_put name row content shown answer new_out seeks reads quiet held put =
-      let there = sought_there mid.told path front (λ b. look b name) row content (still_front path shelf mid same front opens) seeks reads in
+      let there = sought_there shelf.told path front (λ b. look b name) row content opens seeks reads in
       let b = there.0 in
       content_put (work_of.Cat name) b (cat_of name shown) answer new_out there.1 quiet (cat_alone name shown)
       (λ t. cat_due name (look b name) content there.2 ∙ ap (cat_of name) held) put
 
   -- the content wasn't read
-  pub content_unread : (work : ImageWork) (row : Option Row) (given : Stop) → ReadsContent mid.told path front row (Err given)
-      → (given ≡ stop.Outside → ShelfFailed mid new)
+  pub content_unread : (work : ImageWork) (row : Option Row) (given : Stop) → ReadsContent shelf.told path front row (Err given)
+      → (given ≡ stop.Outside → ShelfFailed shelf new)
       → StepComesTo (WorkComesTo shelf.told source.told path work) reading (Err given) (world shelf source out) (world new source out)
-  content_unread work row given reads rose =
-      unopened (of_work work source) path shelf new (stays ∙ same) source out given
-      (subst (λ (told : Option Files). IsUnopened told path given) same (sought_unread mid.told path front row given
-      (still_front path shelf mid same front opens) reads))
-      (λ failed. subst (λ (count : ℕ). Rose count new.faults) kept (rose failed))
+  content_unread work row given reads =
+      unopened (of_work work source) path shelf new stays source out given (sought_unread shelf.told path front row given opens reads)
+
+-- a text of the front is put
+pub index_put : (work : ImageWork) (text : List ℕ → List ℕ) (path : List ℕ) (shelf : ShelfSeen) (front : Front)
+    (answer : Result (Unit {0}) Stop) (out new_out : Seen (List ℕ)) → IsOpenFront shelf.told path front
+    → ((b t : List ℕ) → image_outcome work b t ≡ done (text b)) → PutsOfFront front text answer out new_out
+    → WorkDoes work path answer shelf shelf out new_out
+index_put work text path shelf front answer out new_out opens is puts source =
+    let there = filed_there shelf.told path front opens in
+    let b = there.0 in
+    content_put path shelf shelf refl source out front opens work b (done (text b)) answer new_out there.1 refl refl (is b)
+    (puts b there.1.0)
 
 -- What was taken
 
@@ -229,11 +236,9 @@ found_long told path front sought (Some row) result seeks (place, begins, reads)
     content_long b (sought b) row place (seeks.content b whole) (begins.content b whole)
     (omega (arith, begins.within b whole, whole.length_is))
 
--- behind the front the content of what the look-up finds
-pub takes_sought : (told mid : Option Files) (path : List ℕ) (front : Front) (sought : LookUp) (row : Option Row)
-    (result : Result (Option (List ℕ)) Stop) (old now new : ℕ) → IsOpenFront told path front
-    → ((b : List ℕ) → IsFileOf front.bytes front.length b → now ≤ old + front_size b) → new ≤ now + row_size row
-    → Seeks sought front row → ReadsContent mid path front row result → TakesFrom told path (sought_size sought) old new
-takes_sought told mid path front sought row result old now new opened taken more seeks reads =
-    takes_opened told path front (λ b. length (content_found (sought b))) old now new opened taken
-    (λ b whole. let long = found_long mid path front sought row result seeks reads b whole in omega (arith, more, long))
+-- the content of what the look-up finds
+pub takes_sought : (told : Option Files) (path : List ℕ) (front : Front) (sought : LookUp) (row : Option Row)
+    (result : Result (Option (List ℕ)) Stop) (old new : ℕ) → new ≤ old + row_size row → Seeks sought front row
+    → ReadsContent told path front row result → TakesOfFront front (λ b. length (content_found (sought b))) old new
+takes_sought told path front sought row result old new more seeks reads b whole =
+    let long = found_long told path front sought row result seeks reads b whole in omega (arith, more, long)

@@ -1,5 +1,5 @@
 -- What `extract` does, from what its call answered.
-use Rattle.std.proofs.Common.{◌≡◌, inl, ℕ, List, [], length, Option, None, Result, Ok, Err, IsTrue, refl, sym, ap, subst}
+use Rattle.std.proofs.Common.{◌≡◌, inl, ℕ, List, [], length, Option, Result, Ok, Err, IsTrue, refl, sym, ap, subst}
 use Rattle.jm_outside.specs.Made.{MadePart}
 use Rattle.jm_names.specs.ByName.{Named}
 use Rattle.jm_texts.specs.declared.refusal.Refusal.{Refusal}
@@ -8,7 +8,7 @@ use Rattle.jm_extract.specs.declared.extracting.ExtractStop.TheVariants as extra
 use Rattle.jm_extract.specs.Extracted.{BreaksOff, Extracts, extracted, writes_of}
 use Rattle.jm_filed.specs.Filed.{IsFiled}
 use Rattle.jm_outside.specs.Files.{Files}
-use Rattle.jm_outside.specs.Shelves.{ShelfFailed, ShelfSeen}
+use Rattle.jm_outside.specs.Shelves.{ShelfFailed}
 use Rattle.jm_pattern.specs.declared.signs.Sign.{Sign}
 use Rattle.jm_valid.specs.Opened.{Front}
 use Rattle.jm_words.specs.declared.tasks.ImageWork.TheVariants as work
@@ -23,15 +23,11 @@ use Rattle.jm_inspect.specs.Steps.{PutDoes, StepComesTo, StepDoes}
 use Rattle.jm_inspect.specs.Works.{WorkComesTo}
 use Rattle.jm_inspect.specs.Sinks.{Seen}
 use Rattle.jm_inspect.specs.Stops.{stop_of_extract}
-use Rattle.jm_inspect.specs.World.{World, world}
+use Rattle.jm_inspect.specs.World.{World}
 use Rattle.jm_inspect.proofs.FrontLaws.{filed_there, of_work, opened}
 use Rattle.jm_inspect.proofs.Made.{stays_part}
+use Rattle.jm_inspect.proofs.OutcomeLaws.{extract_session}
 use Rattle.jm_inspect.proofs.StepLaws.{complained, made_in_part, made_put, on_any_text, put_step}
-
--- no session is due of an extraction
-pub extract_session : (dir : List ℕ) (due : Result (List Named) Refusal) → (extract_outcome dir due).session ≡ None
-extract_session dir (Ok entries) = refl
-extract_session dir (Err refusal) = refl
 
 -- files that were broken off were made in part
 broken_part : (dir : List ℕ) (due : Result (List Named) Refusal) (old new : Option Files) → BreaksOff due dir old new
@@ -78,15 +74,14 @@ module _ (dir : List ℕ) (due : Result (List Named) Refusal) (old new : World) 
       made_in_part (extract_outcome dir due) stop.Memory old new tt (extract_session dir due)
       (broken_part dir due old.shelf.told new.shelf.told broken) source unput (λ failed. cc)
 
--- behind the opening of the image in the file of a path
-pub extract_does : (dir : List ℕ) (include : Option (List (List Sign))) (path : List ℕ) (shelf mid : ShelfSeen) (source out : Seen (List ℕ))
-    (front : Front) (answer : Result (Unit {0}) Stop) (new : World) → mid.told ≡ shelf.told → mid.faults ≡ shelf.faults
-    → IsOpenFront shelf.told path front → ((b : List ℕ) → IsFiled front mid.told path b → StepDoes reading (extract_outcome dir (extracted b include)) answer
-    (world mid source out) new) → StepComesTo (WorkComesTo shelf.told source.told path (work.Extract dir include)) reading answer
-    (world shelf source out) new
-extract_does dir include path shelf mid source out front answer new same kept opens does =
-    let there = filed_there path shelf mid same front opens in
+-- of the image in the file of a path
+pub extract_does : (dir : List ℕ) (include : Option (List (List Sign))) (path : List ℕ) (front : Front) (answer : Result (Unit {0}) Stop)
+    (old new : World) → IsOpenFront old.shelf.told path front
+    → ((b : List ℕ) → IsFiled front old.shelf.told path b → StepDoes reading (extract_outcome dir (extracted b include)) answer old new)
+    → StepComesTo (WorkComesTo old.shelf.told old.input.told path (work.Extract dir include)) reading answer old new
+extract_does dir include path front answer old new opens does =
+    let there = filed_there old.shelf.told path front opens in
     let b = there.0 in
-    opened (of_work (work.Extract dir include) source) path shelf mid same source out kept front b answer new opens
-    there.1 (on_any_text (image_outcome (work.Extract dir include) b) (extract_outcome dir (extracted b include)) answer
-    (world mid source out) new (λ text. refl) (does b there.1))
+    opened (of_work (work.Extract dir include) old.input) old.shelf.told path front b opens there.1
+    (on_any_text (image_outcome (work.Extract dir include) b) (extract_outcome dir (extracted b include)) answer old new
+    (λ text. refl) (does b there.1))

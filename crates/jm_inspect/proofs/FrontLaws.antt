@@ -1,5 +1,5 @@
 -- The first bytes of a file: what is known of the file, and how many were taken.
-use Rattle.std.proofs.Common.{◌≡◌, ◌+◌, ◌-◌, ◌≤◌, ℕ, List, [], ◌++◌}
+use Rattle.std.proofs.Common.{◌≡◌, ◌≢◌, ◌+◌, ◌-◌, ◌≤◌, ℕ, List, [], ◌++◌}
 use Rattle.std.proofs.Common.{length, take, drop, min, replicate, Option, Some, None, option_map}
 use Rattle.std.proofs.Common.{Result, Ok, Err, refl, sym, ap, ◌∙◌, subst, arith}
 use Rattle.std.proofs.lemmas.List.{append_assoc, length-append, length-replicate, length-take}
@@ -11,9 +11,10 @@ use Rattle.jm_form.specs.declared.container.HeaderFault.{HeaderFault}
 use Rattle.jm_form.specs.Head.{HoldsHead, IsFileOf, header_of, header_with, index_length}
 use Rattle.jm_form.specs.declared.damage.Damage.{Damage}
 use Rattle.jm_form.specs.Damages.{first_damage}
-use Rattle.jm_form.specs.Validity.{ValidAs}
+use Rattle.jm_form.specs.Validity.{ValidAs, look}
 use Rattle.jm_form.proofs.HeadLaws.{head_read}
 use Rattle.jm_form.proofs.LocalityLaws.{header_same}
+use Rattle.jm_jrt.specs.Stat.{node_sought}
 use Rattle.jm_outside.specs.Files.{Files, file, file_length, file_part, part}
 use Rattle.jm_outside.specs.Outcome.{Shows}
 use Rattle.jm_outside.specs.Shelves.{ShelfFailed, ShelfSeen}
@@ -21,18 +22,20 @@ use Rattle.jm_reader.specs.Walk.{entries_of, entries_with}
 use Rattle.jm_texts.specs.InfoText.{header_text, info_text, info_with}
 use Rattle.jm_valid.specs.Opened.{Front}
 use Rattle.jm_words.specs.declared.tasks.ImageWork.{ImageWork}
+use Rattle.jm_words.specs.declared.tasks.ImageWork.TheVariants as of
 use Rattle.jm_inspect.specs.declared.complaint.Complaint.TheVariants as complaint
 use Rattle.jm_inspect.specs.declared.stop.Stop.{Stop}
 use Rattle.jm_inspect.specs.declared.stop.Stop.TheVariants as stop
 use Rattle.jm_inspect.specs.FileParts.{Adds, Comes, HasFront, HasLength, HasPart, IsFrontOf, IsHeadOf, IsOpenFront, IsSoundFile, IsUnopened}
 use Rattle.jm_inspect.specs.FileParts.{LacksPart, ReadsMore}
 use Rattle.jm_inspect.specs.Outcome.{Outcome, damaged, image_outcome, not_there, reading}
-use Rattle.jm_inspect.specs.Works.{HasFile, ImageComes, OpenedComesTo, TextComesTo}
-use Rattle.jm_inspect.specs.Steps.{StepComesTo}
+use Rattle.jm_inspect.specs.Works.{HasFile, ImageComes, TextComesTo, WorkComesTo}
+use Rattle.jm_inspect.specs.Steps.{StepComesTo, WorkDoes}
 use Rattle.jm_inspect.specs.Sinks.{Seen}
-use Rattle.jm_inspect.specs.Taken.{TakesBy, TakesFrom, TakesOf, front_size, front_with, opened_size, unless_damaged}
+use Rattle.jm_inspect.specs.Taken.{TakesBy, TakesFrom, TakesOf, TakesOfFront, WorkTakes, front_size, front_with}
+use Rattle.jm_inspect.specs.Taken.{extract_size, opened_size, sought_size, unless_damaged, work_length}
 use Rattle.jm_inspect.specs.World.{World, world}
-use Rattle.jm_inspect.proofs.StepLaws.{complains, fails_at_once, file_read}
+use Rattle.jm_inspect.proofs.StepLaws.{comes_behind, complains, fails_at_once, step_as}
 
 -- A told file
 
@@ -285,8 +288,8 @@ takes_front told path more old new takes = takes_more told path front_size (open
 
 -- behind the front of an image without a damage contents of it
 pub takes_opened : (told : Option Files) (path : List ℕ) (front : Front) (more : List ℕ → ℕ) (old now new : ℕ)
-    → IsOpenFront told path front → ((b : List ℕ) → IsFileOf front.bytes front.length b → now ≤ old + front_size b)
-    → ((b : List ℕ) → IsFileOf front.bytes front.length b → new ≤ now + more b) → TakesFrom told path (opened_size more) old new
+    → IsOpenFront told path front → TakesOfFront front front_size old now → TakesOfFront front more now new
+    → TakesFrom told path (opened_size more) old new
 takes_opened told path front more old now new (is, sound) taken also =
     let there = front_there told path front.bytes front.length is in
     let b = there.0 in
@@ -297,6 +300,38 @@ takes_opened told path front more old now new (is, sound) taken also =
       subst (λ (d : Option Damage). new ≤ old + (front_size b + unless_damaged d (more b))) (sym (sound b there.2))
           (omega (arith, first, rest)),
     )
+
+-- a work may take nothing
+pub work_takes_nothing : (told : Option Files) (path : List ℕ) (does : ImageWork) (n : ℕ) → WorkTakes told path does n n
+work_takes_nothing told path of.Info n = takes_nothing told path front_size n
+work_takes_nothing told path of.Verify n = takes_nothing told path front_size n
+work_takes_nothing told path (of.List include) n = takes_nothing told path front_size n
+work_takes_nothing told path (of.Cat name) n = takes_nothing told path (sought_size (λ b. look b name)) n
+work_takes_nothing told path (of.Ls folder) n = takes_nothing told path (sought_size (λ b. node_sought b folder)) n
+work_takes_nothing told path (of.Extract dir include) n = takes_nothing told path (extract_size include) n
+work_takes_nothing told path of.Serve n = takes_nothing told path (λ b. length b) n
+
+-- a work that goes by the front takes what is said of it
+pub work_takes : (told : Option Files) (path : List ℕ) (work : ImageWork) (old new : ℕ) → work ≢ of.Serve
+    → TakesFrom told path (opened_size (work_length work)) old new → WorkTakes told path work old new
+work_takes told path work old new goes takes = go work goes takes
+  where
+    no_more : (d : Option Damage) → unless_damaged d 0 ≡ 0
+    no_more None = refl
+    no_more (Some damage) = refl
+
+    alone : TakesFrom told path (opened_size (λ b. 0)) old new → TakesFrom told path front_size old new
+    alone = takes_more told path (opened_size (λ b. 0)) front_size old new (λ b. omega (arith, no_more (first_damage b)))
+
+    go : (work : ImageWork) → work ≢ of.Serve → TakesFrom told path (opened_size (work_length work)) old new
+        → WorkTakes told path work old new
+    go of.Info goes takes = alone takes
+    go of.Verify goes takes = alone takes
+    go (of.List include) goes takes = alone takes
+    go (of.Cat name) goes takes = takes
+    go (of.Ls folder) goes takes = takes
+    go (of.Extract dir include) goes takes = takes
+    go of.Serve goes takes = absurd (goes refl)
 
 -- An answer with nothing there
 
@@ -320,17 +355,13 @@ unextended told mid path old new Also size count more given same long counted wi
 
 -- An image that was opened
 
-module _ (path : List ℕ) (shelf mid : ShelfSeen) (same : mid.told ≡ shelf.told) (front : Front)
-    (opens : IsOpenFront shelf.told path front) where
-  pub still_front : IsOpenFront mid.told path front
-  still_front = subst (λ (told : Option Files). IsOpenFront told path front) (sym same) opens
-
+module _ (told : Option Files) (path : List ℕ) (front : Front) (opens : IsOpenFront told path front) where
   -- a file of the front is there
-  pub filed_there : (b : List ℕ) × IsFiled front mid.told path b
-  filed_there = let there = front_there mid.told path front.bytes front.length still_front.0 in (there.0, (there.2, there.1))
+  pub filed_there : (b : List ℕ) × IsFiled front told path b
+  filed_there = let there = front_there told path front.bytes front.length opens.0 in (there.0, (there.2, there.1))
 
-  pub index_there : IsIndexAt front mid.told path
-  index_there = record { alone = still_front.0.ends; filed = go mid.told filed_there }
+  pub index_there : IsIndexAt front told path
+  index_there = record { alone = opens.0.ends; filed = go told filed_there }
     where
       go : (told : Option Files) → (b : List ℕ) × IsFiled front told path b
           → Shows told (λ files. (b : List ℕ) × (Some b ≡ file files path) × IsFileOf front.bytes front.length b)
@@ -340,6 +371,17 @@ module _ (path : List ℕ) (shelf mid : ShelfSeen) (same : mid.told ≡ shelf.to
 -- what comes of an image without a damage, by the work on it
 abbrev pub of_work : ImageWork → Seen (List ℕ) → List ℕ → Outcome → Type 0
 of_work work source b = TextComesTo source.told (image_outcome work b)
+
+-- what comes of the bytes of a sound file comes of the image in the file of the path
+sound_due : (Sound : List ℕ → Outcome → Type 0) (told : Option Files) (path b : List ℕ) → IsSoundFile told path b
+    → (due : Outcome) → Sound b due → ImageComes told path Sound due
+sound_due Sound told path b (has, sound) due is = (Some b, has, rw sound is)
+
+-- what is done with a file of a front that was opened is done with the image in the file of the path
+pub opened : (Sound : List ℕ → Outcome → Type 0) (told : Option Files) (path : List ℕ) (front : Front) (b : List ℕ)
+    {answer : Result (Unit {0}) Stop} {old new : World} → IsOpenFront told path front → IsFiled front told path b
+    → StepComesTo (Sound b) reading answer old new → StepComesTo (ImageComes told path Sound) reading answer old new
+opened Sound told path front b opens (whole, has) = step_as (sound_due Sound told path b (has, opens.1 b whole))
 
 -- what a step comes to that opens the image in the file of a path, by what comes of an image without a damage
 module _ (Sound : List ℕ → Outcome → Type 0) (path : List ℕ) (shelf mid : ShelfSeen) (same : mid.told ≡ shelf.told)
@@ -366,16 +408,18 @@ module _ (Sound : List ℕ → Outcome → Type 0) (path : List ℕ) (shelf mid 
   -- it was, and what was done then is due of the file
   pub opened_file : mid.faults ≡ shelf.faults → (b : List ℕ) (answer : Result (Unit {0}) Stop) (new : World) → IsSoundFile shelf.told path b
       → StepComesTo (Sound b) reading answer (world mid source out) new → Does answer new
-  opened_file kept b answer new (has, sound) step =
-      file_read (λ c. OpenedComesTo (Sound c) (first_damage c)) path b shelf (world mid source out) new answer has same kept (rw sound step)
+  opened_file kept b answer new is step =
+      comes_behind (ImageComes shelf.told path Sound) shelf (world mid source out) new answer same kept
+      (step_as (sound_due Sound shelf.told path b is) step)
 
-  -- and of each file of a front that was opened
-  pub opened : mid.faults ≡ shelf.faults → (front : Front) (b : List ℕ) (answer : Result (Unit {0}) Stop) (new : World)
-      → IsOpenFront shelf.told path front → IsFiled front mid.told path b → StepComesTo (Sound b) reading answer (world mid source out) new
-      → Does answer new
-  opened kept front b answer new opens (whole, has) step =
-      let there = subst (λ (told : Option Files). HasFile told path (Some b)) same has in
-      opened_file kept b answer new (there, opens.1 b whole) step
+-- what a work does behind the opening
+pub work_behind : (work : ImageWork) (path : List ℕ) (answer : Result (Unit {0}) Stop) (shelf mid new : ShelfSeen)
+    (out new_out : Seen (List ℕ)) → mid.told ≡ shelf.told → mid.faults ≡ shelf.faults → WorkDoes work path answer mid new out new_out
+    → WorkDoes work path answer shelf new out new_out
+work_behind work path answer shelf mid new out new_out same kept does source =
+    comes_behind (WorkComesTo shelf.told source.told path work) shelf (world mid source out) (world new source new_out) answer same kept
+    (subst (λ (told : Option Files). StepComesTo (WorkComesTo told source.told path work) reading answer (world mid source out)
+    (world new source new_out)) same (does source))
 
 -- What is put
 

@@ -1,16 +1,20 @@
 -- What all commands have in common.
-use Rattle.std.proofs.Common.{◌≡◌, ℕ, List, Option, Some, None, Result, Ok, Err, refl}
+use Rattle.std.proofs.Common.{◌≡◌, ◌≢◌, ℕ, List, Option, Some, None, Result, Ok, Err, refl}
+use Rattle.jm_extract.specs.Extracted.{extracted}
+use Rattle.jm_form.specs.Validity.{look}
 use Rattle.jm_form.specs.declared.rows.Row.{Row}
 use Rattle.jm_form.specs.declared.trees.Holds.{Holds}
 use Rattle.jm_jrt.specs.declared.jrt_error.JrtError.{JrtError}
 use Rattle.jm_jrt.specs.declared.jrt_error.JrtError.TheVariants.{BadNode, NotFolder, NotThere}
+use Rattle.jm_jrt.specs.Stat.{held, stat}
 use Rattle.jm_modinfo.specs.declared.descriptor.Descriptor.{Descriptor}
 use Rattle.jm_modinfo.specs.declared.faults.DescriptorFault.{DescriptorFault}
 use Rattle.jm_modinfo.specs.Descriptions.{info_for}
-use Rattle.jm_inspect.specs.declared.shown.Shown.{Shown}
-use Rattle.jm_inspect.specs.declared.shown.Shown.TheVariants as shown
-use Rattle.jm_inspect.specs.ShownText.{shown_text, work_shown}
-use Rattle.jm_inspect.specs.Outcome.{cat_outcome, describe_outcome, descriptor_outcome, ls_outcome, done, image_outcome}
+use Rattle.jm_names.specs.ByName.{Named}
+use Rattle.jm_texts.specs.declared.refusal.Refusal.{Refusal}
+use Rattle.jm_words.specs.declared.tasks.ImageWork.{ImageWork}
+use Rattle.jm_words.specs.declared.tasks.ImageWork.TheVariants as work
+use Rattle.jm_inspect.specs.Outcome.{cat_outcome, describe_outcome, descriptor_outcome, extract_outcome, image_outcome, ls_outcome}
 
 -- Whether a session is due
 
@@ -31,8 +35,14 @@ descriptor_session path (Err fault) = refl
 pub describe_session : (release : ℕ) (path b : List ℕ) → (describe_outcome release path b).session ≡ None
 describe_session release path b = descriptor_session path (info_for release b)
 
--- what an index shows is the output
-pub shown_due : (given : Shown) (b text : List ℕ) → image_outcome (work_shown given) b text ≡ done (shown_text given b)
-shown_due shown.Info b text = refl
-shown_due shown.Verify b text = refl
-shown_due (shown.List include) b text = refl
+pub extract_session : (dir : List ℕ) (due : Result (List Named) Refusal) → (extract_outcome dir due).session ≡ None
+extract_session dir (Ok entries) = refl
+extract_session dir (Err refusal) = refl
+
+-- of a work on an image, but of `serve`
+pub work_session : (does : ImageWork) (b text : List ℕ) → does ≢ work.Serve → (image_outcome does b text).session ≡ None
+work_session (work.Cat name) b text other = cat_session name (look b name)
+work_session (work.Ls folder) b text other = ls_session folder (held (stat b folder))
+work_session (work.Extract dir include) b text other = extract_session dir (extracted b include)
+work_session work.Serve b text other = absurd (other refl)
+work_session _ b text other = refl

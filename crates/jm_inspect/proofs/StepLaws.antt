@@ -361,22 +361,35 @@ module _ (shelf : ShelfSeen) (now new : World) where
     none_rose = λ ok. none_sooner kept (step.none_rose ok);
   }
 
--- A step on the file of a path
+-- What a step comes to
 
--- behind the read of the file
-pub file_read : (Bytes : List ℕ → Outcome → Type 0) (path b : List ℕ) (shelf : ShelfSeen) (now new : World)
-    (answer : Result (Unit {0}) Stop) → ReadsFile shelf.told path (Ok b) → now.shelf.told ≡ shelf.told → now.shelf.faults
-    ≡ shelf.faults → StepComesTo (Bytes b) reading answer now new → StepComesTo (FileComesTo shelf.told path Bytes) reading answer
-    (record { shelf = shelf; input = now.input; out = now.out }) new
-file_read Bytes path b shelf now new answer has same kept (inl fails) = inl (record {
+-- what follows from what is due
+pub step_as : {Due Also : Outcome → Type 0} {early : Early} {answer : Result (Unit {0}) Stop} {old new : World}
+    → ((due : Outcome) → Due due → Also due) → StepComesTo Due early answer old new → StepComesTo Also early answer old new
+step_as leads (inl fails) = inl fails
+step_as leads (inr (due, is, step)) = inr (due, leads due is, step)
+
+-- behind a call of the shelf that changed no file
+pub comes_behind : (Due : Outcome → Type 0) (shelf : ShelfSeen) (now new : World) (answer : Result (Unit {0}) Stop)
+    → now.shelf.told ≡ shelf.told → now.shelf.faults ≡ shelf.faults → StepComesTo Due reading answer now new
+    → StepComesTo Due reading answer (record { shelf = shelf; input = now.input; out = now.out }) new
+comes_behind Due shelf now new answer same kept (inl fails) = inl (record {
   failed = fails.failed;
   files = subst (λ (told : Option Files). MadePart [] told new.shelf.told) same fails.files;
   source = fails.source;
   output = fails.output;
   outside = λ failed. files_sooner shelf now new kept reading reading refl (fails.outside failed);
 })
-file_read Bytes path b shelf now new answer has same kept (inr (due, is, step)) =
-    inr (due, (Some b, has, is), step_behind shelf now new reading due answer same kept step)
+comes_behind Due shelf now new answer same kept (inr (due, is, step)) =
+    inr (due, is, step_behind shelf now new reading due answer same kept step)
+
+-- and the read of the file of a path
+pub file_read : (Bytes : List ℕ → Outcome → Type 0) (path b : List ℕ) (shelf : ShelfSeen) (now new : World)
+    (answer : Result (Unit {0}) Stop) → ReadsFile shelf.told path (Ok b) → now.shelf.told ≡ shelf.told → now.shelf.faults
+    ≡ shelf.faults → StepComesTo (Bytes b) reading answer now new → StepComesTo (FileComesTo shelf.told path Bytes) reading answer
+    (record { shelf = shelf; input = now.input; out = now.out }) new
+file_read Bytes path b shelf now new answer has same kept step =
+    comes_behind (FileComesTo shelf.told path Bytes) shelf now new answer same kept (step_as (λ due is. (Some b, has, is)) step)
 
 -- the file isn't there, or its read failed
 pub file_unread : (Bytes : List ℕ → Outcome → Type 0) (path : List ℕ) (given : Stop) (old new : World)

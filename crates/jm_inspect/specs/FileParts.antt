@@ -104,6 +104,11 @@ ReadsFront told path result =
 
 -- What opening an image comes to
 
+-- the index of an image that is open, and the path of its file
+pub record OpenIndex : Type 0 where
+  pub front : Front
+  pub path : List ℕ
+
 -- this is the front of the file of a path, and each file with it is an image without a damage
 abbrev pub IsOpenFront : Option Files → List ℕ → Front → Type 0
 IsOpenFront told path front =

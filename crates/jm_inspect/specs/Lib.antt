@@ -7,7 +7,6 @@ pub mod ListText
 pub mod Outcome
 pub mod Pieces
 pub mod SessionHeld
-pub mod ShownText
 pub mod Sinks
 pub mod Sought
 pub mod StatusValue

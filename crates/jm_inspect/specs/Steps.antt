@@ -1,7 +1,10 @@
 -- What a step of a run did to the outside, said by what its command comes to (this project's rule).
 use Rattle.std.specs.Prelude.{ℕ, ◌≡◌, ◌≢◌, ◌⊎◌, IsTrue, IsOk, List, [], Result, Ok, Err}
+use Rattle.jm_form.specs.Head.{IsFileOf}
 use Rattle.jm_outside.specs.Made.{MadeAll, MadePart, Writes}
 use Rattle.jm_outside.specs.Shelves.{ShelfSeen}
+use Rattle.jm_valid.specs.Opened.{Front}
+use Rattle.jm_words.specs.declared.tasks.ImageWork.{ImageWork}
 use Rattle.jm_inspect.specs.declared.complaint.Complaint.{Complaint}
 use Rattle.jm_inspect.specs.declared.complaint.Complaint.TheVariants as complaint
 use Rattle.jm_inspect.specs.declared.status.Status.{Status}
@@ -13,8 +16,8 @@ use Rattle.jm_inspect.specs.Outcome.{Early, Outcome, done, reading, refused}
 use Rattle.jm_inspect.specs.SessionHeld.{SourceRead, StopsAs}
 use Rattle.jm_inspect.specs.Sinks.{Failed, Gets, GetsFront, Seen}
 use Rattle.jm_inspect.specs.Texts.{complaint_text, line_of}
-use Rattle.jm_inspect.specs.World.{NoneRose, World}
-use Rattle.jm_inspect.specs.Works.{TextComesTo}
+use Rattle.jm_inspect.specs.World.{NoneRose, World, world}
+use Rattle.jm_inspect.specs.Works.{TextComesTo, WorkComesTo}
 
 -- the status with which a complaint ends a run
 abbrev pub status_of : Complaint → Status
@@ -121,3 +124,18 @@ pub record PutDoes (due : Outcome) (answer : Result (Unit {0}) Stop)
   pub outside : answer ≡ Err stop.Outside → Failed out new_out
   pub kept : IsOk answer → new_out.faults ≡ out.faults
   pub memory : answer ≡ Err stop.Memory → (due ≡ done due.output) ⊎ (new_out.told ≡ out.told)
+
+-- a text of each file that begins with this front is put, which is due
+abbrev pub PutsOfFront
+    : Front → (List ℕ → List ℕ) → Result (Unit {0}) Stop → (out new_out : Seen (List ℕ)) → Type 0
+PutsOfFront front text answer out new_out =
+    (b : List ℕ) → IsFileOf front.bytes front.length b → PutDoes (done (text b)) answer out new_out
+
+-- what a work does on the image in the file of a path, to which the source isn't lent
+abbrev pub WorkDoes
+    : ImageWork → List ℕ → Result (Unit {0}) Stop → (shelf new_shelf : ShelfSeen)
+    → (out new_out : Seen (List ℕ)) → Type 0
+WorkDoes work path answer shelf new_shelf out new_out =
+    (source : Seen (List ℕ))
+    → StepComesTo (WorkComesTo shelf.told source.told path work) reading answer
+    (world shelf source out) (world new_shelf source new_out)

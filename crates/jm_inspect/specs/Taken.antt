@@ -5,13 +5,14 @@ use Rattle.jm_form.specs.declared.container.Header.{Header}
 use Rattle.jm_form.specs.declared.damage.Damage.{Damage}
 use Rattle.jm_form.specs.Damages.{first_damage}
 use Rattle.jm_form.specs.declared.container.HeaderFault.{HeaderFault}
-use Rattle.jm_form.specs.Head.{header_of, index_length}
+use Rattle.jm_form.specs.Head.{IsFileOf, header_of, index_length}
 use Rattle.jm_form.specs.declared.rows.Row.{Row}
 use Rattle.jm_form.specs.Validity.{look}
 use Rattle.jm_extract.specs.Extracted.{taken_size}
 use Rattle.jm_jrt.specs.Stat.{node_sought}
 use Rattle.jm_outside.specs.Files.{Files}
 use Rattle.jm_pattern.specs.declared.signs.Sign.{Sign}
+use Rattle.jm_valid.specs.Opened.{Front}
 use Rattle.jm_words.specs.declared.tasks.ImageWork.{ImageWork}
 use Rattle.jm_words.specs.declared.tasks.ImageWork.TheVariants as work
 use Rattle.jm_inspect.specs.Cat.{content_of}
@@ -59,6 +60,19 @@ TakesBy told path Takes old new =
 abbrev pub TakesFrom : Option Files → List ℕ → (List ℕ → ℕ) → (old new : ℕ) → Type 0
 TakesFrom told path most old new =
     TakesBy told path (λ b before after. after ≤ before + most b) old new
+
+-- at most so many bytes of each file that begins with this front
+abbrev pub TakesOfFront : Front → (List ℕ → ℕ) → (old new : ℕ) → Type 0
+TakesOfFront front most old new =
+    (b : List ℕ) → IsFileOf front.bytes front.length b → new ≤ old + most b
+
+-- the bytes that a work takes of an image without a damage, behind its front: no other work goes by
+-- the front than these
+abbrev pub work_length : ImageWork → List ℕ → ℕ
+work_length (work.Cat name) b = length (content_of (look b name))
+work_length (work.Ls folder) b = length (content_of (node_sought b folder))
+work_length (work.Extract dir include) b = taken_size b include
+work_length _ b = 0
 
 -- what a work on the image in the file of a path takes: `info`, `verify` and `list` the front,
 -- and of an image without a damage `cat` and `ls` the content of the name or of the folder's node

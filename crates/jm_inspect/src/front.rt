@@ -5,11 +5,12 @@ ghost use Rattle.jm_form.specs.Head.{IsFileOf};
 ghost use Rattle.jm_outside.specs.Outcome.{CountsFaults};
 ghost use Rattle.jm_inspect.specs.FileParts.{IsOpenFront, Opens, ReadsFront, ReadsHead};
 ghost use Rattle.jm_inspect.specs.FileParts.{ReadsLength, ReadsMore, ReadsPart};
-ghost use Rattle.jm_inspect.specs.Taken.{TakesFrom, front_size};
+ghost use Rattle.jm_inspect.specs.Taken.{TakesFrom, TakesOfFront, front_size};
 
 use crate::complaint::Complaint;
 use crate::stop::Stop;
 use jm_bytes::{NoMemory, Text};
+use jm_filed::FiledImage;
 use jm_form::read_header_of;
 use jm_halves::{Gate, Workers};
 use jm_outside::Shelf;
@@ -150,23 +151,24 @@ fn file_front<S: Shelf>(alloc: Global, path: &Text, shelf: &mut S) -> Result<Fil
     }
 }
 
-/// The index of an image beside the first bytes of its file: a meter of what is read of the index
-/// is made of them.
+/// The index of an image beside the first bytes of its file, of which a meter of what is read of
+/// the index is made, and the path of that file.
 #[derive(Drop)]
 pub struct OpenFront<'a> {
     index: Index<'a>,
     bytes: &'a [u8],
+    path: &'a Text,
 }
 
 impl<'a> Model for OpenFront<'a> {
-    ghost use Rattle.std.specs.Prelude.{◌≡◌};
-    ghost use Rattle.jm_valid.specs.Opened.{Front};
+    ghost use Rattle.std.specs.Prelude.{◌≡◌, IsUtf8};
+    ghost use Rattle.jm_inspect.specs.FileParts.{OpenIndex};
 
-    ghost Value = { Front };
+    ghost Value = { OpenIndex };
 
-    ghost view = { λ a. a.index };
+    ghost view = { λ a. record { front = a.index; path = a.path.now } };
 
-    ghost invariant = { λ a. a.index.bytes ≡ a.bytes.now };
+    ghost invariant = { λ a. (a.index.bytes ≡ a.bytes.now) × IsUtf8 a.path.now };
 }
 
 impl<'a> OpenFront<'a> {
@@ -174,25 +176,26 @@ impl<'a> OpenFront<'a> {
     /// `front`, in the place of what that holds, and no more of the file is read.
     pub fn at<T: Threads + Sync, S: Shelf, G: Gate + Sync>(
         workers: &Workers<T, G>,
-        path: &Text,
+        path: &'a Text,
         front: &'a mut FileFront,
         shelf: &mut S,
     ) -> Result<OpenFront<'a>, Stop>
         requires { IsUtf8 path.now }
         ensures files { S.files shelf.new ≡ S.files shelf.old }
+        ensures path { IfOk result (λ image. image.path ≡ path.now) }
         ensures opens { Opens (S.files shelf.old) path.now
-            (IsOpenFront (S.files shelf.old) path.now) result }
+            (λ image. IsOpenFront (S.files shelf.old) path.now image.front) result }
         ensures takes { TakesFrom (S.files shelf.old) path.now front_size
             (S.handed shelf.old) (S.handed shelf.new) }
-        ensures taken { IfOk result (λ index. (b : List ℕ) → IsFileOf index.bytes index.length b
-            → S.handed shelf.new ≤ S.handed shelf.old + front_size b) }
+        ensures taken { IfOk result (λ image. TakesOfFront image.front front_size
+            (S.handed shelf.old) (S.handed shelf.new)) }
         ensures faults { CountsFaults (S.faults shelf.old) (S.faults shelf.new) (IsOk result)
             (IsErrOf result Stop.Outside) }
     {
         *front = file_front(workers.alloc, path, shelf)?;
         let bytes = front.bytes.as_slice();
         match Index::open(workers, bytes, front.length) {
-            Ok(index) => Ok(OpenFront { index, bytes }),
+            Ok(index) => Ok(OpenFront { index, bytes, path }),
             Err(OpenError::Damaged(damage)) => Err(Stop::Complaint(Complaint::Damaged(damage))),
             Err(OpenError::Memory) => Err(Stop::Memory),
         }
@@ -200,15 +203,35 @@ impl<'a> OpenFront<'a> {
 
     /// The index.
     pub fn as_index(&self) -> &Index<'a>
-        ensures { result.now ≡ self.now }
+        ensures { result.now ≡ self.now.front }
     {
         &self.index
     }
 
     /// The first bytes of the file.
     pub fn bytes(&self) -> &'a [u8]
-        ensures { result.now ≡ self.now.bytes }
+        ensures { result.now ≡ self.now.front.bytes }
     {
         self.bytes
+    }
+
+    /// The path of the file.
+    pub fn path(&self) -> &'a Text
+        ensures path { result.now ≡ self.now.path }
+        ensures text { IsUtf8 result.now }
+    {
+        self.path
+    }
+
+    /// The image as its contents are read from the file.
+    pub fn as_filed(&self) -> FiledImage<'_, 'a>
+        ensures index { result.index.now ≡ self.now.front }
+        ensures path { result.path.now ≡ self.now.path }
+        ensures text { IsUtf8 result.path.now }
+    {
+        FiledImage {
+            index: &self.index,
+            path: self.path.as_slice(),
+        }
     }
 }

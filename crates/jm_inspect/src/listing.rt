@@ -2,13 +2,12 @@ ghost use Rattle.std.specs.Prelude.{◌≡◌, ◌++◌, ℕ, List, OnOk, map, f
 ghost use Rattle.jm_form.specs.Head.{IsFileOf};
 ghost use Rattle.jm_inspect.specs.Ledgers.{IsLedger};
 ghost use Rattle.jm_inspect.specs.ListText.{list_text, sized_as, sized_line};
-ghost use Rattle.jm_inspect.specs.Outcome.{done};
-ghost use Rattle.jm_inspect.specs.Pieces.{PutsText};
-ghost use Rattle.jm_inspect.specs.Steps.{PutDoes};
+ghost use Rattle.jm_inspect.specs.Pieces.{PassesOn, PutsText};
+ghost use Rattle.jm_inspect.specs.Steps.{PutsOfFront};
 ghost use Rattle.jm_inspect.specs.World.{sink_at};
 
 use crate::front::OpenFront;
-use crate::pieces::put_full;
+use crate::pieces::Pieces;
 use crate::stop::Stop;
 use itoa::Buffer;
 use jm_bytes::{List, Meter, NoMemory, extend};
@@ -32,48 +31,60 @@ fn extend_line(alloc: Global, text: &mut Vec<u8>, entry: &TakenEntry) -> Result<
     extend(text, b"\n")
 }
 
-/// Puts the lines of some entries, piece by piece; the last piece may be empty.
-fn put_lines<O: Sink>(alloc: Global, entries: &[TakenEntry], out: &mut O) -> Result<(), SinkError>
-    ensures { PutsText (flat_map sized_line (map sized_as entries.now)) result
-        (sink_at O.Sink out.old) (sink_at O.Sink out.new) }
+/// Passes on the line of an entry.
+fn put_line<O: Sink>(pieces: &mut Pieces<O>, entry: &TakenEntry) -> Result<(), SinkError>
+    ensures { PassesOn O.Sink (sized_line (sized_as entry.now)) result pieces.old pieces.new }
 {
-    let mut text = Vec::new(alloc);
-    for entry in entries {
-        extend_line(alloc, &mut text, entry)?;
-        put_full(alloc, &mut text, out)?;
-    }
-    out.put(alloc, text.as_slice())
+    extend_line(pieces.alloc, pieces.held, entry)?;
+    pieces.put_full()
 }
 
-/// Puts the text of `list`, with a meter of its own.
+/// Passes on the lines of some entries.
+fn put_lines<O: Sink>(pieces: &mut Pieces<O>, entries: &[TakenEntry]) -> Result<(), SinkError>
+    ensures { PassesOn O.Sink (flat_map (λ t. sized_line (sized_as t)) entries.now) result
+        pieces.old pieces.new }
+{
+    for entry in entries {
+        put_line(pieces, entry)?;
+    }
+    Ok(())
+}
+
+/// Puts the text of `list`, with a meter of its own; the last piece may be empty.
 fn put_taken<O: Sink, R: Ledger>(
     alloc: Global,
-    front: &OpenFront,
+    image: &OpenFront,
     include: &Option<List<Pattern>>,
     out: &mut O,
     reads: Blank,
 ) -> Result<(), SinkError>
     requires reads { IsLedger reads.name reads.parts R.name R.parts }
-    ensures { (b : List ℕ) → IsFileOf front.now.bytes front.now.length b →
+    ensures { (b : List ℕ) → IsFileOf image.now.front.bytes image.now.front.length b →
         PutsText (list_text b include.now) result
         (sink_at O.Sink out.old) (sink_at O.Sink out.new) }
 {
-    let mut reads = Meter::<R>::new(front.bytes(), reads);
-    let entries = taken(alloc, front.as_index(), include, &mut reads)?;
-    put_lines(alloc, entries.as_slice(), out)
+    let mut reads = Meter::<R>::new(image.bytes(), reads);
+    let entries = taken(alloc, image.as_index(), include, &mut reads)?;
+    let mut held = Vec::new(alloc);
+    let mut pieces = Pieces {
+        alloc,
+        held: &mut held,
+        out,
+    };
+    put_lines(&mut pieces, entries.as_slice())?;
+    pieces.put_held()
 }
 
 /// Puts the lines of the taken entries of an image, piece by piece.
 pub fn put_list<O: Sink>(
     alloc: Global,
-    front: &OpenFront,
+    image: &OpenFront,
     include: &Option<List<Pattern>>,
     out: &mut O,
 ) -> Result<(), Stop>
-    ensures { (b : List ℕ) → IsFileOf front.now.bytes front.now.length b →
-        PutDoes (done (list_text b include.now)) result
+    ensures { PutsOfFront image.now.front (λ b. list_text b include.now) result
         (sink_at O.Sink out.old) (sink_at O.Sink out.new) }
 {
-    put_taken::<O, Brand>(alloc, front, include, out, Blank::new(1))?;
+    put_taken::<O, Brand>(alloc, image, include, out, Blank::new(1))?;
     Ok(())
 }

@@ -1,5 +1,5 @@
 -- A text of the strings that is a name: the name's bytes and a zero byte stand at its place.
-use Rattle.std.proofs.Common.{◌≡◌, ◌==◌, ℕ, ◌+◌, ◌-◌, ◌<◌, ◌≤◌, false, true, List, [], ◌∷◌, Ok, length, take, drop}
+use Rattle.std.proofs.Common.{◌≡◌, ◌==◌, ℕ, ◌+◌, ◌-◌, ◌<◌, ◌≤◌, false, true, List, [], ◌∷◌, Ok, length, take, drop, rules}
 use Rattle.std.proofs.Common.{get_or, slice_range, ap, sym, ◌∙◌, arith, length-drop}
 use Rattle.std.proofs.Math.Seq.{drop-cons}
 use Rattle.std.proofs.lemmas.Bool.{eqb-true, false_from_ne_true, true_from_ne_false}
@@ -22,37 +22,24 @@ use Rattle.jm_valid.proofs.PassageLaws.{long_stretch}
 -- a part of the strings is a part of the image
 pub part_of_strings : (b : List ℕ) (h : Header) (place n : ℕ) → place + n ≤ h.strings → slice_range b (strings_place h + place)
     (strings_place h + place + n) ≡ take n (drop place (strings b h))
-part_of_strings b h place n within =
-    let start : ℕ = strings_place h in
-    let size : start + place + n - (start + place) ≡ n = omega arith in
-    let from = section_from b start h.strings place (omega arith) in
-    rw size (sym (ap (take n) from ∙ take-take n (h.strings - place) (drop (start + place) b) (omega arith)))
+part_of_strings b h place n within = search (rules, take-take, section_from)
 
 -- the strings are that part of the image which the header says
 pub strings_part : (b : List ℕ) (h : Header) (buf : List ℕ) (at : ℕ) → header_of b ≡ Ok h → buf ≡ b → at ≡ strings_place h
     → slice_range buf at (at + h.strings) ≡ strings b (head b)
-strings_part b h buf at read same is =
-    let size : strings_place h + h.strings - strings_place h ≡ h.strings = omega arith in
-    ap (λ x. slice_range x at (at + h.strings)) same ∙ ap (λ n. slice_range b n (n + h.strings)) is
-    ∙ ap (λ n. take n (drop (strings_place h) b)) size ∙ ap (strings b) (sym (head_is b h read))
+strings_part b h buf at read same is = search (rules, head_is)
 
--- so many bytes from a text's place on as a name has, and one more, stand in the strings
-pub record Looked (b : List ℕ) (h : Header) (place : ℕ) (name part : List ℕ) : Type 0 where
-  pub is : part ≡ take (length name + 1) (drop place (strings b h))
-  pub size : length part ≡ length name + 1
-  pub within : length name < length (drop place (strings b h))
+-- so many bytes from a place on that the image has are those of the strings
+pub part_taken : (b : List ℕ) (h : Header) (place n : ℕ) (part : List ℕ) → header_of b ≡ Ok h → place + n ≤ h.strings
+    → part ≡ slice_range b (strings_place h + place) (strings_place h + place + n) → part ≡ take n (drop place (strings b (head b)))
+part_taken b h place n part read within cut =
+    rw (head_is b h read) (cut ∙ part_of_strings b h place n within)
 
-pub looked : (b : List ℕ) (h : Header) (place : ℕ) (name part : List ℕ) → header_of b ≡ Ok h → length name < h.strings - place
-    → part ≡ slice_range b (strings_place h + place) (strings_place h + place + (length name + 1)) → Looked b h place name part
-looked b h place name part read short cut =
-    let size = length-strings b h (header_fits b h read) in
-    let rest = length-drop place (strings b h) in
-    let is : part ≡ take (length name + 1) (drop place (strings b h)) = cut ∙ part_of_strings b h place (length name + 1) (omega arith) in
-    record {
-      is = is;
-      size = ap length is ∙ length-take-le (length name + 1) (drop place (strings b h)) (omega arith);
-      within = omega arith;
-    }
+-- how many bytes of the strings stand from a place on
+pub strings_left : (b : List ℕ) (h : Header) (place : ℕ) → header_of b ≡ Ok h
+    → length (drop place (strings b (head b))) ≡ h.strings - place
+strings_left b h place read =
+    rw (head_is b h read) (length-drop place (strings b h) ∙ ap (λ n. n - place) (length-strings b h (header_fits b h read)))
 
 -- where the text is the name, a zero byte is the last of them, and so the first
 pub record Begins (rest name : List ℕ) : Type 0 where
@@ -85,19 +72,12 @@ pub text_of_front : (section : List ℕ) (place n : ℕ) → list_any (λ x. x =
 text_of_front section place n some = (before_first-take (λ x. x == 0) n (drop place section) some).0
 
 -- a name that doesn't begin so is not the text
-pub other_text : (b : List ℕ) (h : Header) (place : ℕ) (name : List ℕ) → header_of b ≡ Ok h
-    → text_ends (strings b (head b)) place ≡ true → (Begins (drop place (strings b h)) name → ⊥)
-    → false ≡ bytes_eq name (text_at (strings b (head b)) place)
-other_text b h place name read ends never =
-    let at = head_is b h read in
-    let ends_here = ap (λ g. text_ends (strings b g) place) (sym at) ∙ ends in
-    rw at (sym (false_from_ne_true (bytes_eq name (text_at (strings b h) place))
-    (λ same. never (begins (strings b h) name place ends_here same))))
+pub other_text : (section name : List ℕ) (place : ℕ) → text_ends section place ≡ true → (Begins (drop place section) name → ⊥)
+    → false ≡ bytes_eq name (text_at section place)
+other_text section name place ends never =
+    sym (false_from_ne_true (bytes_eq name (text_at section place)) (λ same. never (begins section name place ends same)))
 
 -- a text that ends among the bytes that were looked at is the text
-pub text_looked : (b : List ℕ) (h : Header) (place : ℕ) (name part text : List ℕ) → header_of b ≡ Ok h → Looked b h place name part
-    → true ≡ text_ends part 0 → text ≡ text_at part 0 → text ≡ text_at (strings b (head b)) place
-text_looked b h place name part text read part_is ends is =
-    let some : true ≡ list_any (λ x. x == 0) (take (length name + 1) (drop place (strings b h))) = ends
-    ∙ ap (λ l. text_ends l 0) part_is.is in
-    rw (head_is b h read) (is ∙ ap (λ l. text_at l 0) part_is.is ∙ text_of_front (strings b h) place (length name + 1) (sym some))
+pub text_looked : (section : List ℕ) (place n : ℕ) (part text : List ℕ) → part ≡ take n (drop place section)
+    → true ≡ text_ends part 0 → text ≡ text_at part 0 → text ≡ text_at section place
+text_looked section place n part text part_is ends is = search (rules, text_of_front)

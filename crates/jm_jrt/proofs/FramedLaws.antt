@@ -1,5 +1,5 @@
 -- Texts of lines, and where replies end.
-use Rattle.std.proofs.Common.{◌≡◌, ℕ, Bool, true, false, List, [], ◌∷◌, ◌++◌, suc, refl, sym, ap, subst, ◌∙◌, arith, All, length}
+use Rattle.std.proofs.Common.{◌≡◌, ℕ, Bool, true, false, List, [], ◌∷◌, ◌++◌, suc, refl, sym, ap, subst, ◌∙◌, All, length, rules}
 use Rattle.std.proofs.Common.{append-nil, inl, inr, Option, Some, None, Result, Ok, Err}
 use Rattle.std.specs.Prelude.{◌&&◌, codes, flat_map, if◌then◌else◌}
 use Rattle.std.specs.Fmt.{decimal}
@@ -69,13 +69,8 @@ line_each text stays (item ∷ items) =
     more_lines (text item) (length items) (flat_map (λ item. line (text item)) items) (stays item) (line_each text stays items)
 
 lines_end : (lines : List (List ℕ)) → All StaysInLine lines → newlines (flat_map line lines) ≡ length lines
-lines_end [] all = refl
-lines_end (text ∷ lines) all =
-    let front = newlines_append (line text) (flat_map line lines) in
-    let first = newlines_append text (10 ∷ []) in
-    let none = newlines_none text (All-head StaysInLine text lines all) in
-    let rest = lines_end lines (All-tail StaysInLine text lines all) in
-    omega (arith, front, first, none, rest)
+lines_end [] all = search (rules)
+lines_end (text ∷ lines) all = search (rules, All-head, All-tail, newlines_append, newlines_none, (lines_end lines (All-tail StaysInLine text lines all)))
 
 -- lines have as many newlines
 pub newlines_of : (n : ℕ) (text : List ℕ) → AreLines n text → newlines text ≡ n
@@ -140,17 +135,12 @@ mark_stays false = plain_stays [] refl
 
 owner_stays : (path : List ℕ) → StaysInLine path → (held : Owner) → StaysInLine (path ++ 47 ∷ shown held.module
     ++ empty_mark held.empty)
-owner_stays path stays held =
-    both_stay (path ++ 47 ∷ shown held.module) (empty_mark held.empty)
-    (both_stay path (47 ∷ shown held.module) stays
-    (All-cons (λ b. is_control b ≡ false) 47 (shown held.module) refl (shown_stays (utf held.module)))) (mark_stays held.empty)
+owner_stays path stays held = search (rules, All-cons, shown_stays, both_stay, mark_stays)
 
 -- what a folder holds is a line for each
 pub held_are : (path : List ℕ) (holds : Holds) → AreLines (count_of holds) (held_lines path holds)
-held_are path (Children names) = line_each (λ name. (if is_node name then [] else codes "/modules") ++ shown name) entry_stays names
-held_are path (Owners owners) =
-    line_each (λ (held : Owner). shown path ++ 47 ∷ shown held.module ++ empty_mark held.empty)
-    (owner_stays (shown path) (shown_stays (utf path))) owners
+held_are path (Children names) = search (rules, line_each, entry_stays)
+held_are path (Owners owners) = search (rules, shown_stays, line_each, owner_stays)
 
 says_lines : (path : List ℕ) (answer : Result Holds JrtError) → SaysLines (ls_reply path answer)
 says_lines path (Err error) = inl (is_error error)
@@ -159,17 +149,11 @@ says_lines path (Ok holds) = inr (count_of holds, held_lines path holds, held_ar
 -- The reply to a line
 
 verb_is : (verb l : List ℕ) → has_verb verb l ≡ true → (list_any is_space l ≡ true) × (before_first is_space l ≡ verb)
-verb_is verb l has =
-    let parts = and_parts (list_any is_space l) (bytes_eq (before_first is_space l) verb) has in
-    (parts.0, (bytes_eq-Decides (before_first is_space l) verb).0 parts.1)
+verb_is verb l has = search (rules, and_parts, bytes_eq-Decides)
 
 -- the reply is that of its request
 asked : (b verb l : List ℕ) → has_verb verb l ≡ true → reply b l ≡ request_reply b verb (modified (after_first is_space l))
-asked b verb l has =
-    let are = verb_is verb l has in
-    let argument = modified (after_first is_space l) in
-    ap (λ test. if test then request_reply b (before_first is_space l) argument else request_error) are.0
-    ∙ ap (λ v. request_reply b v argument) are.1
+asked b verb l has = search (rules, verb_is)
 
 other_line : (b verb argument : List ℕ) (finds stats lists owns : Bool) → bytes_eq verb (codes "find") ≡ finds
     → bytes_eq verb (codes "stat") ≡ stats → bytes_eq verb (codes "ls") ≡ lists → bytes_eq verb (codes "owner") ≡ owns → finds ≡ false

@@ -1,6 +1,6 @@
 -- What stands before and after the first newline of a text.
-use Rattle.std.proofs.Common.{◌≡◌, ◌==◌, ◌<◌, ℕ, true, false, List, [], ◌∷◌, ◌++◌, refl, sym, ap, ◌∙◌, subst, length, get_or, arith}
-use Rattle.std.specs.List.{after_first, before_first, list_any, position_or_len}
+use Rattle.std.proofs.Common.{◌≡◌, ◌==◌, ◌<◌, ℕ, true, false, List, [], ◌∷◌, ◌++◌, refl, sym, ◌∙◌, length, get_or, arith, rules}
+use Rattle.std.specs.List.{after_first, before_first, list_any}
 use Rattle.std.proofs.lemmas.Bool.{eqb-true, false_from_ne_true, false≢true}
 use Rattle.std.proofs.lemmas.List.{get_or-take, length-take}
 use Rattle.std.proofs.lemmas.List.Folds.{list_any_at}
@@ -14,18 +14,11 @@ none_free text none = λ (k d : ℕ) below.
     false_from_ne_true (is_newline (get_or text k d)) (λ is. false≢true (sym none ∙ list_any_at is_newline text k d below is))
 
 pub front_free : (text front : List ℕ) → front ≡ before_first is_newline text → IsFree front
-front_free text front is = subst IsFree (sym is) (λ (k d : ℕ) below.
-    let len = length-take (position_or_len is_newline text) text in
-    let inside : k < position_or_len is_newline text = omega arith in
-    ap is_newline (get_or-take (position_or_len is_newline text) text k d inside) ∙ fails_before_first is_newline text k d inside)
+front_free text front is = search (rules, get_or-take, length-take, fails_before_first)
 
 pub whole_cut : (text front behind : List ℕ) → list_any is_newline text ≡ true → front ≡ before_first is_newline text
     → behind ≡ after_first is_newline text → text ≡ front ++ 10 ∷ behind
-whole_cut text front behind some before after =
-    let cut = first_parts is_newline text 0 some in
-    let newline : cut.0 ≡ 10 = eqb-true cut.0 10 cut.1 in
-    sym cut.2 ∙ ap (λ (n : ℕ). before_first is_newline text ++ n ∷ after_first is_newline text) newline
-    ∙ ap (λ (t : List ℕ). t ++ 10 ∷ after_first is_newline text) (sym before) ∙ ap (λ (t : List ℕ). front ++ 10 ∷ t) (sym after)
+whole_cut text front behind some before after = search (rules, eqb-true, first_parts)
 
 -- a test whether a text has a byte
 

@@ -1,5 +1,5 @@
 -- The lines of a text that begins with some lines and their newlines.
-use Rattle.std.proofs.Common.{◌≡◌, ◌<◌, ◌≤◌, ◌-◌, ℕ, zero, suc, List, [], ◌∷◌, ◌++◌, All, Bool, true, false}
+use Rattle.std.proofs.Common.{◌≡◌, ◌<◌, ◌≤◌, ◌-◌, ℕ, zero, suc, List, [], ◌∷◌, ◌++◌, All, Bool, true, false, rules}
 use Rattle.std.proofs.Common.{refl, ap, ◌∙◌, length, take, arith, cond, append-nil}
 use Rattle.std.specs.List.{onto_first, slice_split}
 use Rattle.std.proofs.lemmas.Bool.{le-leb, lt-leb}
@@ -49,9 +49,7 @@ lines_part part free = ap but_empty_last (slice_split_none is_newline part free)
 -- and of those that ended, these alone where no newline stands behind
 
 pub ended_joined : (done : List (List ℕ)) (part : List ℕ) → All IsLine done → IsFree part → ended_lines (joined done ++ part) ≡ done
-ended_joined done part good free =
-    ap but_last (split_joined done part good) ∙ but_last-append done (slice_split is_newline part) (some_parts part)
-    ∙ ap (λ parts. done ++ but_last parts) (slice_split_none is_newline part free) ∙ append-nil done
+ended_joined done part good free = search (rules, append-nil, slice_split_none, split_joined, some_parts, but_last-append)
 
 -- one more line, by its newline
 
@@ -70,10 +68,8 @@ pub record Begins (front text : List ℕ) : Type 0 where
 
 split_front : (front rest part : List ℕ) (parts : List (List ℕ)) → IsFree front → slice_split is_newline rest ≡ part ∷ parts
     → slice_split is_newline (front ++ rest) ≡ (front ++ part) ∷ parts
-split_front [] rest part parts free split = split
-split_front (b ∷ front) rest part parts free split =
-    slice_split-cons_no is_newline b (front ++ rest) (All-head (λ c. is_newline c ≡ false) b front free)
-    ∙ ap (onto_first b) (split_front front rest part parts (All-tail (λ c. is_newline c ≡ false) b front free) split)
+split_front [] rest part parts free split = search (rules)
+split_front (b ∷ front) rest part parts free split = search (rules, All-head, All-tail, slice_split-cons_no, (split_front front rest part parts (All-tail (λ c. is_newline c ≡ false) b front free) split))
 
 pub line_begins : (front rest : List ℕ) → IsFree front → 0 < length front → Begins front (front ++ rest)
 line_begins [] rest free some = absurd (omega arith)
@@ -121,10 +117,8 @@ answered_all (suc most) (first ∷ done) more good within =
     ∙ ap (λ (n : ℕ). done ++ answered n more) (omega arith))
 
 pub answered_long : (most : ℕ) (first : List ℕ) (more : List (List ℕ)) → 8192 < length first → answered most (first ∷ more) ≡ []
-answered_long zero first more long = refl
-answered_long (suc most) first more long =
-    take_while-cons is_short first (take most more)
-    ∙ ap (λ test. cond test (first ∷ answered most more) []) (lt-leb (length first) 8192 long)
+answered_long zero first more long = search (rules)
+answered_long (suc most) first more long = search (rules, lt-leb, take_while-cons)
 
 pub answered_nothing : (most : ℕ) → answered most [] ≡ []
 answered_nothing zero = refl

@@ -1,6 +1,6 @@
 -- What holds of a content without a bad word, and its items from one on.
-use Rattle.std.proofs.Common.{◌≡◌, ℕ, suc, ◌+◌, ◌-◌, ◌*◌, ◌%◌, ◌==◌, ◌<◌, ◌&&◌, nat_lt, Bool, true}
-use Rattle.std.proofs.Common.{false, List, ◌∷◌, length, None, Some, refl}
+use Rattle.std.proofs.Common.{◌≡◌, ℕ, ◌+◌, ◌-◌, ◌*◌, ◌%◌, ◌==◌, ◌<◌, ◌&&◌, nat_lt, Bool, true, rules}
+use Rattle.std.proofs.Common.{false, List, ◌∷◌, length, map, None, Some, refl}
 use Rattle.std.proofs.Common.{ap, ◌∙◌, arith}
 use Rattle.std.proofs.lemmas.List.{length-map}
 use Rattle.std.proofs.lemmas.List.FromFn.{length-range_with_len}
@@ -11,8 +11,8 @@ use Rattle.jm_jrt.specs.Stat.{first_full}
 use Rattle.jm_form.specs.Places.{strings}
 use Rattle.jm_form.specs.Texts.{text_ends}
 use Rattle.jm_reader.specs.Look.{head}
-use Rattle.jm_jrt.specs.Told.{fits, is_child_sound, is_half_sound, is_pair_sound, is_row_sound, name_told}
-use Rattle.jm_jrt.specs.Told.{names_from, names_left, owner_told, owners_from, owners_left, pair_count}
+use Rattle.jm_jrt.specs.Told.{fits, is_child_sound, is_half_sound, is_pair_sound, is_row_sound}
+use Rattle.jm_jrt.specs.Told.{pair_count}
 use Rattle.jm_jrt.specs.Told.{row_told, word_count, word_of, words_fault}
 use Rattle.jm_jrt.proofs.FaultLaws.{sound_below}
 
@@ -20,6 +20,15 @@ pub both : (a b : Bool) → a && b ≡ true → (a ≡ true) × (b ≡ true)
 both true true e = (refl, refl)
 both true false e = cc
 both false b e = cc
+
+-- What is told from an item on
+
+pub items_more : {A : Type 0} (item : ℕ → A) (k n : ℕ) → k < n
+    → map item (range_with_len k (n - k)) ≡ item k ∷ map item (range_with_len (k + 1) (n - (k + 1)))
+items_more item k n below = search (rules)
+
+pub items_length : {A : Type 0} (item : ℕ → A) (k n : ℕ) → length (map item (range_with_len k (n - k))) ≡ n - k
+items_length item k n = length-map (range_with_len k (n - k)) item ∙ length-range_with_len k (n - k)
 
 -- Children
 
@@ -33,17 +42,6 @@ child_at b content k none below =
     let parts = both (fits content k) (is_row_sound (strings b (head b)) (row_told b (word_of b content k)))
     (sound_below (is_child_sound b content) (word_count content) none k below) in
     record { fits = parts.0; sound = parts.1 }
-
-pub names_more : (b : List ℕ) (content : List ℕ) (k : ℕ) → k < word_count content → names_left b content k
-    ≡ name_told b (word_of b content k) ∷ names_left b content (k + 1)
-names_more b content k below =
-    let size : word_count content - k ≡ suc (word_count content - (k + 1)) = omega arith in
-    ap (λ (n : ℕ). names_from b content k n) size
-
-pub names_length : (b : List ℕ) (content : List ℕ) (k : ℕ) → length (names_left b content k) ≡ word_count content - k
-names_length b content k =
-    length-map (range_with_len k (word_count content - k)) (λ k. name_told b (word_of b content k))
-    ∙ length-range_with_len k (word_count content - k)
 
 -- Pairs
 
@@ -74,16 +72,6 @@ pair_at b content k none below =
       flag = first_half (strings b (head b)) (2 * k) (word_of b content (2 * k)) (ap (λ (n : ℕ). n == 0) even) first.1;
       ends = second_half (strings b (head b)) (2 * k + 1) (word_of b content (2 * k + 1)) (ap (λ (n : ℕ). n == 0) odd) second.1;
     }
-
-pub owners_more : (b : List ℕ) (content : List ℕ) (k : ℕ) → k < pair_count content → owners_left b content k
-    ≡ owner_told b content k ∷ owners_left b content (k + 1)
-owners_more b content k below =
-    let size : pair_count content - k ≡ suc (pair_count content - (k + 1)) = omega arith in
-    ap (λ (n : ℕ). owners_from b content k n) size
-
-pub owners_length : (b : List ℕ) (content : List ℕ) (k : ℕ) → length (owners_left b content k) ≡ pair_count content - k
-owners_length b content k =
-    length-map (range_with_len k (pair_count content - k)) (owner_told b content) ∙ length-range_with_len k (pair_count content - k)
 
 -- The first owner that isn't empty
 

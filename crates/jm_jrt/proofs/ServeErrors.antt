@@ -1,15 +1,8 @@
 -- What is known of an answer that is an error.
-use Rattle.std.proofs.Common.{◌≡◌, ℕ, List, Option, Result, Ok, Err, IfErr, OnErr, sym, subst}
-use Rattle.std.specs.Prelude.{IsErrAnd}
+use Rattle.std.proofs.Common.{◌≡◌, ℕ, List, Option, Result, Ok, Err, IfErr, OnErr, rules}
 use Rattle.jm_bytes.specs.Metered.{Metered}
 use Rattle.jm_jrt.specs.declared.serve_error.ServeError.{ServeError}
 use Rattle.jm_jrt.specs.Sessions.{Serves}
-
--- an error that was handed on
-pub err_with : {T : Type 0} (P : ServeError → Type 0) (answer : Result T ServeError) (error : ServeError)
-    → IsErrAnd answer (λ e. e ≡ error) → P error → IfErr answer P
-err_with P (Ok _) error is fact = absurd is
-err_with P (Err e) error is fact = subst P (sym is) fact
 
 -- two facts of an error, as another one
 pub err_from : {T X : Type 0} (P Q : ServeError → Type 0) (answer : Result T ServeError) → IfErr answer P → OnErr answer X
@@ -17,18 +10,8 @@ pub err_from : {T X : Type 0} (P Q : ServeError → Type 0) (answer : Result T S
 err_from P Q (Ok _) fact other from = tt
 err_from P Q (Err e) fact other from = from e fact other
 
--- a session that ended with an error that was handed on
-pub serves_err : (b : List ℕ) (answer : Result ℕ ServeError) (error : ServeError) (rest new_rest out new_out : Option (List ℕ))
-    (reads new_reads : Metered) → IsErrAnd answer (λ e. e ≡ error) → Serves b (Err error) rest new_rest out new_out reads new_reads
-    → Serves b answer rest new_rest out new_out reads new_reads
-serves_err b (Ok n) error rest new_rest out new_out reads new_reads is serves = absurd is
-serves_err b (Err e) error rest new_rest out new_out reads new_reads is serves =
-    subst (λ (x : ServeError). Serves b (Err x) rest new_rest out new_out reads new_reads) (sym is) serves
-
 -- what a session left, said of what it was lent
 pub serves_lent : (b : List ℕ) (answer : Result ℕ ServeError) (rest new_rest out new_out lent_out : Option (List ℕ))
     (reads new_reads lent_reads : Metered) → new_out ≡ lent_out → new_reads ≡ lent_reads
     → Serves b answer rest new_rest out new_out reads new_reads → Serves b answer rest new_rest out lent_out reads lent_reads
-serves_lent b answer rest new_rest out new_out lent_out reads new_reads lent_reads same_out same_reads serves =
-    subst (λ (o : Option (List ℕ)). Serves b answer rest new_rest out o reads lent_reads) same_out
-    (subst (λ (r : Metered). Serves b answer rest new_rest out new_out reads r) same_reads serves)
+serves_lent b answer rest new_rest out new_out lent_out reads new_reads lent_reads same_out same_reads serves = search (rules)

@@ -1,8 +1,8 @@
 -- What a session comes to, from how far it came.
-use Rattle.std.proofs.Common.{◌≡◌, ◌<◌, ◌≤◌, ◌+◌, ◌-◌, ◌*◌, ℕ, List, [], ◌∷◌, ◌++◌, All, Option, Some, None}
+use Rattle.std.proofs.Common.{◌≡◌, ◌<◌, ◌≤◌, ◌+◌, ◌-◌, ◌*◌, ℕ, List, [], ◌∷◌, ◌++◌, All, Option, Some, None, rules}
 use Rattle.std.proofs.Common.{option_map, Ok, Err, refl, sym, ap, ◌∙◌, subst, length, take, arith, append-nil}
 use Rattle.std.proofs.Math.Seq.{take-append-add, take-append_seam}
-use Rattle.std.proofs.lemmas.List.{append_assoc, length-append, take-append-le, take_all}
+use Rattle.std.proofs.lemmas.List.{append_assoc, length-append, take-append-le}
 use Rattle.std.proofs.lemmas.List.Elements.{All-push}
 use Rattle.jm_bytes.specs.Metered.{Metered}
 use Rattle.jm_outside.specs.Outcome.{PutsFront, Shows, Told}
@@ -10,13 +10,13 @@ use Rattle.jm_jrt.specs.declared.serve_error.ServeError.{ServeError}
 use Rattle.jm_jrt.specs.declared.serve_error.ServeError.TheVariants.{ReadFault, WriteFault, LongLine, TooManyLines, Memory}
 use Rattle.jm_jrt.specs.Lines.{answered, ended_lines, last_line, lines_bytes, lines_of, replies}
 use Rattle.jm_jrt.specs.Reply.{IsWithin, line_bytes, reply}
-use Rattle.jm_jrt.specs.Sessions.{Breaks, Ended, IsFree, IsLine, IsOpen, IsTooLong, IsTooMany, piece_of}
+use Rattle.jm_jrt.specs.Sessions.{Arrives, Breaks, Ended, IsFree, IsLine, IsOpen, IsTooLong, IsTooMany, piece_of}
 use Rattle.jm_jrt.specs.Sessions.{Moment, Passes, Put, PutBehind, PutFails, Serves, answered_in, joined}
 use Rattle.jm_jrt.proofs.FramedLaws.{all_framed}
 use Rattle.jm_jrt.proofs.LineLaws.{Begins, answered_all, answered_long, answered_nothing, ended_joined}
 use Rattle.jm_jrt.proofs.LineLaws.{line_begins, lines_joined, lines_next, lines_part, some_lines}
-use Rattle.jm_jrt.proofs.SessionSteps.{breaks_at_once, breaks_more, put_then, replies_append}
-use Rattle.jm_jrt.proofs.TakenLaws.{Cut, HasGot, got_all, got_front, no_line}
+use Rattle.jm_jrt.proofs.SessionSteps.{breaks_at_once, breaks_more, breaks_then, passes_more, passes_then, put_then, replies_append}
+use Rattle.jm_jrt.proofs.TakenLaws.{Cut, HasGot, cut_behind, gives_front, got_all, got_front, line_of, no_line, whole_part}
 use Rattle.jm_jrt.proofs.WithinLaws.{within_append, within_one}
 
 -- What is told of the source
@@ -42,9 +42,7 @@ told_then (Some old) (Some now) (Some new) given piece first second = first ∙ 
 -- nothing more came at the end
 pub told_same : (rest mid new_rest : Option (List ℕ)) (given piece : List ℕ) (n : ℕ) → n ≡ 0 → Told rest mid (λ old new. old
     ≡ given ++ new) → Told mid new_rest (λ old new. old ≡ take n piece ++ new) → Told rest new_rest (λ old new. old ≡ given ++ new)
-told_same rest mid new_rest given piece n none first second =
-    subst (λ (t : List ℕ). Told rest new_rest (λ old new. old ≡ t ++ new)) (ap (λ (k : ℕ). given ++ take k piece) none
-    ∙ append-nil given) (told_then rest mid new_rest given (take n piece) first second)
+told_same rest mid new_rest given piece n none first second = search (rules, append-nil, told_then)
 
 pub told_none : (rest mid new_rest : Option (List ℕ)) (given piece : List ℕ) (n : ℕ) → n ≡ 0 → Told rest mid (λ old new. old
     ≡ given ++ new) → Told mid new_rest (λ old new. old ≡ take n piece ++ new) → Shows mid (λ left. left ≡ [])
@@ -66,14 +64,9 @@ told_end (Some old) (Some new) given told ends = (told ∙ ap (λ (t : List ℕ)
 told_front : (out new_out : Option (List ℕ)) (first last : List ℕ) (P : List ℕ → Type 0)
     → Told (option_map (λ put. put ++ first) out) new_out (λ old new. PutsFront old new last) → ((n : ℕ) → n ≤ length last
     → P (first ++ take n last)) → Told out new_out (λ old new. (m : List ℕ) × (new ≡ old ++ m) × P m)
-told_front None new_out first last P told from = tt
-told_front (Some old) None first last P told from = absurd told
-told_front (Some old) (Some new) first last P told from = (
-  first ++ take told.0 last,
-  told.2
-      ∙ append_assoc old first (take told.0 last),
-  from told.0 told.1,
-)
+told_front None new_out first last P told from = search (rules)
+told_front (Some old) None first last P told from = search (rules)
+told_front (Some old) (Some new) first last P told from = search (rules, append_assoc)
 
 -- Lines that were answered are those in front
 
@@ -91,10 +84,7 @@ front_answered text done more lines good within =
 -- a front of the replies, where one more line was due
 front_put : (b : List ℕ) (done : List (List ℕ)) (first : List ℕ) (more : List (List ℕ)) (n : ℕ) → n ≤ length (reply b first)
     → replies b done ++ take n (reply b first) ≡ take (length (replies b done) + n) (replies b (done ++ first ∷ more))
-front_put b done first more n within =
-    sym (ap (take (length (replies b done) + n)) (replies_append b done (first ∷ more))
-    ∙ take-append-add (replies b done) (reply b first ++ replies b more) n
-    ∙ ap (λ (t : List ℕ). replies b done ++ t) (take-append-le n (reply b first) (replies b more) within))
+front_put b done first more n within = search (rules, take-append-add, take-append-le, replies_append)
 
 -- the line that is due is among those that are answered
 due_answered : (text : List ℕ) (done : List (List ℕ)) (first : List ℕ) (later : List (List ℕ)) → lines_of text ≡ done ++ first
@@ -105,42 +95,42 @@ due_answered text done first later lines good line within =
     good line) (omega (arith, length-append done (first ∷ [])))
     ∙ append_assoc done (first ∷ []) (answered (1000000 - length (done ++ first ∷ [])) later)
 
+-- one more line was due, of whose reply a front was put
+due_put : (b text : List ℕ) (done : List (List ℕ)) (first : List ℕ) (more : List (List ℕ)) (left : List ℕ) (out new_out : Option (List ℕ))
+    → answered_in text ≡ done ++ first ∷ more
+    → Told (option_map (λ put. put ++ replies b done) out) new_out (λ o n. PutsFront o n (reply b first))
+    → PutBehind b (Err WriteFault) text left out new_out
+due_put b text done first more left out new_out all told =
+    told_front out new_out (replies b done) (reply b first) (λ m. Put b (Err WriteFault) text left m) told (λ n within. (
+      length (replies b done) + n,
+      front_put b done first more n within
+          ∙ ap (λ (l : List (List ℕ)). take (length (replies b done) + n) (replies b l)) (sym all),
+    ))
+
 -- After a fault of the source
 
 -- the lines that ended in what came are among those that are answered
 given_answered : (given left part : List ℕ) (done : List (List ℕ)) → given ≡ joined done ++ part → All IsLine done
     → length done ≤ 1000000 → done ≡ take (length done) (answered_in (given ++ left))
-given_answered given left part done is good within =
-    front_answered (given ++ left) done (lines_of (part ++ left)) (ap lines_of (ap (λ (t : List ℕ). t ++ left) is
-    ∙ append_assoc (joined done) part left) ∙ lines_joined done (part ++ left) good) good within
+given_answered given left part done is good within = search (rules, append_assoc, lines_joined, front_answered)
 
-pub serves_given : (b : List ℕ) (rest new_rest : Option (List ℕ)) (given part : List ℕ) (old new : Moment)
-    (reads new_reads : Metered) → Told rest new_rest (λ o n. o ≡ given ++ n) → Passes b given old part new → IsOpen new.lines part
-    → Serves b (Err ReadFault) rest new_rest old.put new.put reads new_reads
-serves_given b rest new_rest given part old new reads new_reads told passes further_on =
-    let most = further_on.within in
-    let count = passes.lines in
+pub serves_given : (b : List ℕ) (rest new_rest : Option (List ℕ)) (old : Moment) (part : List ℕ) (new : Moment) (reads new_reads : Metered)
+    → Arrives b rest new_rest old part new → Serves b (Err ReadFault) rest new_rest old.put new.put reads new_reads
+serves_given b rest new_rest old part new reads new_reads arrives =
+    let given = arrives.given in
+    let passes = arrives.passes in
     let ended : ended_lines given ≡ passes.done = ap ended_lines passes.is
-    ∙ ended_joined passes.done part passes.good further_on.free in
+    ∙ ended_joined passes.done part passes.good arrives.goes_on.free in
     let first : passes.done ≡ take (length passes.done) (answered_in (given ++ left_of new_rest)) =
     given_answered given (left_of new_rest) part passes.done passes.is passes.good (omega arith) in
     record {
       text = given ++ left_of new_rest;
       given = given;
       left = left_of new_rest;
-      told = told_left rest new_rest given told;
+      told = told_left rest new_rest given arrives.told;
       parted = refl;
-      bounded = record {
-        count = length passes.done;
-        lines = passes.done;
-        first = first;
-        put = got_all (replies b passes.done) old.put new.put passes.put;
-        begun = part;
-        rest = [];
-        is = passes.is ∙ ap (λ (t : List ℕ). joined passes.done ++ t) (sym (append-nil part));
-        line = record { free = further_on.free; short = further_on.short };
-        within = omega arith;
-      };
+      bounded = gives_front 0 b (given ++ left_of new_rest) given passes.done part old.put new.put first
+          (got_all (replies b passes.done) old.put new.put passes.put) passes.is (whole_part 0 part (line_of new.lines part arrives.goes_on));
       ended = tt;
       put = (
         replies b passes.done,
@@ -160,11 +150,9 @@ module _ (b text : List ℕ) (old : Moment) (none : old.lines ≡ 0) (new_put : 
   long_line : (k : ℕ) (breaks : Breaks (LongLine k) b text old new_put) → (IsTooLong k text) × (answered_in text ≡ breaks.done)
   long_line k breaks =
       let begins = breaks.fails.0 in
-      let below = breaks.fails.1 in
       let number = breaks.fails.2 in
       let long = begins.long in
       let front : Begins begins.front (begins.front ++ begins.rest) = line_begins begins.front begins.rest begins.free (omega arith) in
-      let longer = front.long in
       let behind : lines_of breaks.behind ≡ front.first ∷ front.later = ap lines_of begins.is ∙ front.lines in
       let lines : lines_of text ≡ breaks.done ++ front.first ∷ front.later = lines_behind (LongLine k) breaks
       ∙ ap (λ (l : List (List ℕ)). breaks.done ++ l) behind in
@@ -188,7 +176,6 @@ module _ (b text : List ℕ) (old : Moment) (none : old.lines ≡ 0) (new_put : 
   many_lines : (breaks : Breaks TooManyLines b text old new_put) → (IsTooMany text) × (answered_in text ≡ breaks.done)
   many_lines breaks =
       let some = breaks.fails.0 in
-      let number = breaks.fails.1 in
       let lines = lines_behind TooManyLines breaks in
       let left : 1000000 - length breaks.done ≡ 0 = omega arith in
       let all : answered_in text ≡ breaks.done =
@@ -217,16 +204,15 @@ module _ (b text : List ℕ) (old : Moment) (none : old.lines ≡ 0) (new_put : 
   got_so TooManyLines breaks = got_all (replies b breaks.done) old.put new_put breaks.fails.2
 
   -- and no more was taken than a piece
-  piece_so : (error : ServeError) → Breaks error b text old new_put → (n : ℕ) → n ≤ 65536 → n ≤ piece_of error
-  piece_so ReadFault breaks n within = absurd breaks.fails
-  piece_so WriteFault breaks n within = within
-  piece_so Memory breaks n within = within
-  piece_so (LongLine k) breaks n within = within
-  piece_so TooManyLines breaks n within = within
+  cut_so : (error : ServeError) (breaks : Breaks error b text old new_put) → Cut 65536 breaks.behind → Cut (piece_of error) breaks.behind
+  cut_so ReadFault breaks cut = absurd breaks.fails
+  cut_so WriteFault breaks cut = cut
+  cut_so Memory breaks cut = cut
+  cut_so (LongLine k) breaks cut = cut
+  cut_so TooManyLines breaks cut = cut
 
   first_so : (error : ServeError) (breaks : Breaks error b text old new_put) → breaks.done ≡ take (length breaks.done) (answered_in text)
   first_so error breaks =
-      let most = breaks.most in
       front_answered text breaks.done (lines_of breaks.behind) (lines_behind error breaks) breaks.good (omega arith)
 
   puts_so : (error : ServeError) → Breaks error b text old new_put → (left : List ℕ) → PutBehind b (Err error) text left old.put new_put
@@ -234,20 +220,11 @@ module _ (b text : List ℕ) (old : Moment) (none : old.lines ≡ 0) (new_put : 
   puts_so WriteFault breaks left =
       let first = breaks.fails.0 in
       let begins = breaks.fails.1 in
-      let below = breaks.fails.2 in
-      let behind : lines_of breaks.behind ≡ first ∷ lines_of begins.rest = ap lines_of begins.is
-      ∙ lines_next first begins.rest begins.good in
       let lines : lines_of text ≡ breaks.done ++ first ∷ lines_of begins.rest = lines_behind WriteFault breaks
-      ∙ ap (λ (l : List (List ℕ)). breaks.done ++ l) behind in
-      let later : List (List ℕ) = answered (1000000 - length (breaks.done ++ first ∷ [])) (lines_of begins.rest) in
-      let all : answered_in text ≡ breaks.done ++ first ∷ later = due_answered text breaks.done first (lines_of begins.rest) lines
-      breaks.good begins.good (omega arith) in
-      told_front old.put new_put (replies b breaks.done) (reply b first) (λ m. Put b (Err WriteFault) text left m) breaks.fails.3
-      (λ n within. (
-        length (replies b breaks.done) + n,
-        front_put b breaks.done first later n within
-            ∙ ap (λ (l : List (List ℕ)). take (length (replies b breaks.done) + n) (replies b l)) (sym all),
-      ))
+      ∙ ap (λ (l : List ℕ). breaks.done ++ lines_of l) begins.is
+      ∙ ap (λ (l : List (List ℕ)). breaks.done ++ l) (lines_next first begins.rest begins.good) in
+      due_put b text breaks.done first (answered (1000000 - length (breaks.done ++ first ∷ [])) (lines_of begins.rest)) left old.put new_put
+      (due_answered text breaks.done first (lines_of begins.rest) lines breaks.good begins.good (omega arith)) breaks.fails.3
   puts_so Memory breaks left =
       (replies b breaks.done, breaks.fails, (length breaks.done, ap (replies b) (first_so Memory breaks)))
   puts_so (LongLine k) breaks left =
@@ -257,7 +234,7 @@ module _ (b text : List ℕ) (old : Moment) (none : old.lines ≡ 0) (new_put : 
 
 pub serves_broken : (error : ServeError) (b : List ℕ) (rest new_rest : Option (List ℕ)) (given : List ℕ) (old : Moment)
     (new_put : Option (List ℕ)) (reads new_reads : Metered) → old.lines ≡ 0 → Told rest new_rest (λ o n. o ≡ given ++ n)
-    → (breaks : Breaks error b given old new_put) → Cut breaks.behind → Serves b (Err error) rest new_rest old.put
+    → (breaks : Breaks error b given old new_put) → Cut 65536 breaks.behind → Serves b (Err error) rest new_rest old.put
     new_put reads new_reads
 serves_broken error b rest new_rest given old new_put reads new_reads none told breaks cut =
     let left = left_of new_rest in
@@ -269,17 +246,9 @@ serves_broken error b rest new_rest given old new_put reads new_reads none told 
       left = left;
       told = told_left rest new_rest given told;
       parted = refl;
-      bounded = record {
-        count = length breaks.done;
-        lines = breaks.done;
-        first = first_so b text old none new_put error longer;
-        put = got_so b text old none new_put error longer;
-        begun = cut.begun;
-        rest = cut.rest;
-        is = breaks.is ∙ ap (λ (t : List ℕ). joined breaks.done ++ t) cut.is;
-        line = cut.line;
-        within = piece_so b text old none new_put error longer (length cut.rest) cut.within;
-      };
+      bounded = gives_front (piece_of error) b text given breaks.done breaks.behind old.put new_put
+          (first_so b text old none new_put error longer) (got_so b text old none new_put error longer) breaks.is
+          (cut_so b given old none new_put error breaks cut);
       ended = ends_so b text old none new_put error longer left;
       put = puts_so b text old none new_put error longer left;
       framed = all_framed b (answered_in text);
@@ -295,7 +264,7 @@ pub serves_nothing : (b : List ℕ) (rest : Option (List ℕ)) (old : Moment) (r
     → Serves b (Err Memory) rest rest old.put old.put reads new_reads
 serves_nothing b rest old reads new_reads none =
     serves_broken Memory b rest rest [] old old.put reads new_reads none (told_start rest) (breaks_at_once Memory b [] old old.put
-    (omega arith) refl) (record { begun = []; rest = []; is = refl; line = no_line; within = omega arith })
+    (omega arith) refl) (whole_part 65536 [] no_line)
 
 -- After the last line
 
@@ -323,15 +292,14 @@ serves_whole b rest new_rest given lines n put new_put reads new_reads told ends
     }
 
 -- no line had begun
-pub serves_all : (b : List ℕ) (rest new_rest : Option (List ℕ)) (given part : List ℕ) (old new : Moment) → old.lines ≡ 0
-    → Told rest new_rest (λ o n. o ≡ given ++ n) → Told rest new_rest (λ o n. n ≡ []) → Passes b given old part new
-    → IsOpen new.lines part → part ≡ [] → Serves b (Ok new.lines) rest new_rest old.put new.put old.reads new.reads
-serves_all b rest new_rest given part old new none told ends passes further_on empty =
-    let count = passes.lines in
-    let most = further_on.within in
-    let are : lines_of given ≡ passes.done = ap lines_of passes.is ∙ ap (λ (t : List ℕ). lines_of (joined passes.done ++ t)) empty
+pub serves_all : (b : List ℕ) (rest new_rest : Option (List ℕ)) (old : Moment) (part : List ℕ) (new : Moment) → old.lines ≡ 0
+    → Arrives b rest new_rest old part new → Told rest new_rest (λ o n. n ≡ []) → part ≡ []
+    → Serves b (Ok new.lines) rest new_rest old.put new.put old.reads new.reads
+serves_all b rest new_rest old part new none arrives ends empty =
+    let passes = arrives.passes in
+    let are : lines_of arrives.given ≡ passes.done = ap lines_of passes.is ∙ ap (λ (t : List ℕ). lines_of (joined passes.done ++ t)) empty
     ∙ lines_joined passes.done [] passes.good ∙ append-nil passes.done in
-    serves_whole b rest new_rest given passes.done new.lines old.put new.put old.reads new.reads told ends are passes.good
+    serves_whole b rest new_rest arrives.given passes.done new.lines old.put new.put old.reads new.reads arrives.told ends are passes.good
     (omega arith) (omega arith) passes.put passes.reads
 
 last_lines : (b given part : List ℕ) (old new : Moment) (passes : Passes b given old part new) → IsFree part → 0 < length part
@@ -345,98 +313,105 @@ last_lines b given part old new passes free some =
     go (x ∷ part) some = refl
 
 -- one had begun, and was answered
-pub serves_last : (b : List ℕ) (rest new_rest : Option (List ℕ)) (given part : List ℕ) (old new : Moment)
-    (last_put : Option (List ℕ)) (last_reads : Metered) → old.lines ≡ 0 → Told rest new_rest (λ o n. o ≡ given ++ n)
-    → Told rest new_rest (λ o n. n ≡ []) → Passes b given old part new → IsOpen new.lines part → 0 < length part → last_put
-    ≡ option_map (λ text. text ++ reply b part) new.put → IsWithin (line_bytes b part) new.reads last_reads
+pub serves_last : (b : List ℕ) (rest new_rest : Option (List ℕ)) (old : Moment) (part : List ℕ) (new : Moment)
+    (last_put : Option (List ℕ)) (last_reads : Metered) → old.lines ≡ 0 → Arrives b rest new_rest old part new
+    → Told rest new_rest (λ o n. n ≡ []) → 0 < length part → last_put ≡ option_map (λ text. text ++ reply b part) new.put
+    → IsWithin (line_bytes b part) new.reads last_reads
     → Serves b (Ok (new.lines + 1)) rest new_rest old.put last_put old.reads last_reads
-serves_last b rest new_rest given part old new last_put last_reads none told ends passes further_on some put cost =
-    let count = passes.lines in
-    let below = further_on.numbered some in
+serves_last b rest new_rest old part new last_put last_reads none arrives ends some put cost =
+    let passes = arrives.passes in
+    let below = arrives.goes_on.numbered some in
     let longer = length-append passes.done (part ∷ []) in
-    serves_whole b rest new_rest given (passes.done ++ part ∷ []) (new.lines + 1) old.put last_put old.reads last_reads told ends
-    (last_lines b given part old new passes further_on.free some)
-    (All-push IsLine passes.done part passes.good (record { free = further_on.free; short = further_on.short }))
-    (omega arith) (omega arith)
+    serves_whole b rest new_rest arrives.given (passes.done ++ part ∷ []) (new.lines + 1) old.put last_put old.reads last_reads
+    arrives.told ends (last_lines b arrives.given part old new passes arrives.goes_on.free some)
+    (All-push IsLine passes.done part passes.good (line_of new.lines part arrives.goes_on)) (omega arith) (omega arith)
     (put ∙ ap (λ (more : List ℕ). option_map (λ text. text ++ more) new.put) (sym (append-nil (reply b part)))
     ∙ put_then b passes.done (part ∷ []) old.put new.put passes.put)
     (within_append b passes.done (part ∷ []) old.reads new.reads last_reads passes.reads (within_one b part new.reads last_reads cost))
 
 -- one had begun, and wasn't
-pub serves_not_last : (error : ServeError) (b : List ℕ) (rest new_rest : Option (List ℕ)) (given part : List ℕ) (old new : Moment)
-    (last_put : Option (List ℕ)) (reads new_reads : Metered) → old.lines ≡ 0 → Told rest new_rest (λ o n. o ≡ given ++ n)
-    → Told rest new_rest (λ o n. n ≡ []) → Passes b given old part new → IsOpen new.lines part → 0 < length part
-    → PutFails error (reply b part) new.put last_put → Serves b (Err error) rest new_rest old.put last_put reads new_reads
-serves_not_last error b rest new_rest given part old new last_put reads new_reads none told ends passes further_on some fails =
-    record {
+pub serves_not_last : (error : ServeError) (b : List ℕ) (rest new_rest : Option (List ℕ)) (old : Moment) (part : List ℕ) (new : Moment)
+    (last_put : Option (List ℕ)) (reads new_reads : Metered) → old.lines ≡ 0 → Arrives b rest new_rest old part new
+    → Told rest new_rest (λ o n. n ≡ []) → 0 < length part → PutFails error (reply b part) new.put last_put
+    → Serves b (Err error) rest new_rest old.put last_put reads new_reads
+serves_not_last error b rest new_rest old part new last_put reads new_reads none arrives ends some fails = go error fails
+  where
+    given : List ℕ
+    given = arrives.given
+
+    passes : Passes b given old part new
+    passes = arrives.passes
+
+    later : List (List ℕ)
+    later = answered (1000000 - length (passes.done ++ part ∷ [])) []
+
+    all : answered_in given ≡ passes.done ++ part ∷ later
+    all =
+        let count = passes.lines in
+        let below = arrives.goes_on.numbered some in
+        due_answered given passes.done part [] (last_lines b given part old new passes arrives.goes_on.free some) passes.good
+        (line_of new.lines part arrives.goes_on) (omega arith)
+
+    first : passes.done ≡ take (length passes.done) (answered_in given)
+    first = sym (ap (take (length passes.done)) all ∙ take-append_seam passes.done (part ∷ later))
+
+    ends_with : (error : ServeError) → HasGot (replies b passes.done) old.put last_put → Ended (Err error) given []
+        → PutBehind b (Err error) given [] old.put last_put → Serves b (Err error) rest new_rest old.put last_put reads new_reads
+    ends_with error got ended puts = record {
       text = given;
       given = given;
       left = [];
-      told = told_end rest new_rest given told ends;
+      told = told_end rest new_rest given arrives.told ends;
       parted = sym (append-nil given);
-      bounded = record {
-        count = length passes.done;
-        lines = passes.done;
-        first = first;
-        put = got error fails;
-        begun = part;
-        rest = [];
-        is = passes.is ∙ ap (λ (t : List ℕ). joined passes.done ++ t) (sym (append-nil part));
-        line = record { free = further_on.free; short = further_on.short };
-        within = omega arith;
-      };
-      ended = ended error fails;
-      put = puts error fails;
+      bounded = gives_front (piece_of error) b given given passes.done part old.put last_put first got passes.is
+          (whole_part (piece_of error) part (line_of new.lines part arrives.goes_on));
+      ended = ended;
+      put = puts;
       framed = all_framed b (answered_in given);
       reads = tt;
     }
-  where
-    got : (error : ServeError) → PutFails error (reply b part) new.put last_put → HasGot (replies b passes.done) old.put last_put
-    got ReadFault fails = absurd fails
-    got (LongLine k) fails = absurd fails
-    got TooManyLines fails = absurd fails
-    got WriteFault fails = got_front (replies b passes.done) (reply b part) old.put last_put
-        (subst (λ (put : Option (List ℕ)). Told put last_put (λ o n. PutsFront o n (reply b part))) passes.put fails)
-    got Memory fails = got_all (replies b passes.done) old.put last_put (fails ∙ passes.put)
 
-    ended : (error : ServeError) → PutFails error (reply b part) new.put last_put → Ended (Err error) given []
-    ended ReadFault fails = tt
-    ended WriteFault fails = tt
-    ended Memory fails = tt
-    ended (LongLine k) fails = absurd fails
-    ended TooManyLines fails = absurd fails
-
-    all : answered_in given ≡ passes.done ++ part ∷ answered (1000000 - length (passes.done ++ part ∷ [])) []
-    all =
-        let count = passes.lines in
-        let below = further_on.numbered some in
-        due_answered given passes.done part [] (last_lines b given part old new passes further_on.free some) passes.good
-        (record { free = further_on.free; short = further_on.short }) (omega arith)
-
-    first : passes.done ≡ take (length passes.done) (answered_in given)
-    first = sym (ap (take (length passes.done)) all
-        ∙ take-append_seam passes.done (part ∷ answered (1000000 - length (passes.done ++ part ∷ [])) []))
-
-    puts : (error : ServeError) → PutFails error (reply b part) new.put last_put → PutBehind b (Err error) given [] old.put last_put
-    puts ReadFault fails = absurd fails
-    puts (LongLine k) fails = absurd fails
-    puts TooManyLines fails = absurd fails
-    puts WriteFault fails =
-        told_front old.put last_put (replies b passes.done) (reply b part) (λ m. Put b (Err WriteFault) given [] m)
-        (subst (λ (put : Option (List ℕ)). Told put last_put (λ o n. PutsFront o n (reply b part))) passes.put fails)
-        (λ n within. (
-          length (replies b passes.done) + n,
-          front_put b passes.done part
-              (answered (1000000 - length (passes.done ++ part ∷ [])) []) n within
-              ∙ ap (λ (l : List (List ℕ)). take (length (replies b passes.done) + n) (replies b l)) (sym all),
-        ))
-    puts Memory fails = (replies b passes.done, fails ∙ passes.put, (length passes.done, ap (replies b) first))
+    go : (error : ServeError) → PutFails error (reply b part) new.put last_put
+        → Serves b (Err error) rest new_rest old.put last_put reads new_reads
+    go ReadFault fails = absurd fails
+    go (LongLine k) fails = absurd fails
+    go TooManyLines fails = absurd fails
+    go WriteFault fails =
+        let told = subst (λ (put : Option (List ℕ)). Told put last_put (λ o n. PutsFront o n (reply b part))) passes.put fails in
+        ends_with WriteFault (got_front (replies b passes.done) (reply b part) old.put last_put told) tt
+        (due_put b given passes.done part later [] old.put last_put all told)
+    go Memory fails =
+        let put = fails ∙ passes.put in
+        ends_with Memory (got_all (replies b passes.done) old.put last_put put) tt
+        (replies b passes.done, put, (length passes.done, ap (replies b) first))
 
 -- Each piece brings a session further
 
--- what was written at the front of a vector of that length is all of it
-pub written : (now into rest : List ℕ) (len : ℕ) → length into ≡ len → now ≡ take len (into ++ rest) → now ≡ into
-written now into rest len fits is = is ∙ take-append-le len into rest (omega arith) ∙ take_all len into (omega arith)
+module _ (b : List ℕ) (rest mid new_rest : Option (List ℕ)) (old : Moment) (part : List ℕ) (now : Moment) (bytes taken : List ℕ)
+    (arrives : Arrives b rest mid old part now) (told : Told mid new_rest (λ o n. o ≡ taken ++ n)) (is : bytes ≡ taken) where
+  told_on : Told rest new_rest (λ o n. o ≡ (arrives.given ++ bytes) ++ n)
+  told_on = told_then rest mid new_rest arrives.given bytes arrives.told
+      (subst (λ (t : List ℕ). Told mid new_rest (λ o n. o ≡ t ++ n)) (sym is) told)
+
+  passed_so : Passes b (arrives.given ++ bytes) old (part ++ bytes) now
+  passed_so = passes_more b arrives.given old part now bytes arrives.passes
+
+  pub arrives_more : (new_part : List ℕ) (new : Moment) → Passes b (part ++ bytes) now new_part new → IsOpen new.lines new_part
+      → Arrives b rest new_rest old new_part new
+  arrives_more new_part new passes goes_on = record {
+    given = arrives.given ++ bytes;
+    told = told_on;
+    passes = passes_then b (arrives.given ++ bytes) old (part ++ bytes) now new_part new passed_so passes;
+    goes_on = goes_on;
+  }
+
+  pub serves_stopped : (error : ServeError) (new_put : Option (List ℕ)) (reads new_reads : Metered) → old.lines ≡ 0
+      → length bytes ≤ 65536 → Breaks error b (part ++ bytes) now new_put
+      → Serves b (Err error) rest new_rest old.put new_put reads new_reads
+  serves_stopped error new_put reads new_reads none short breaks =
+      serves_broken error b rest new_rest (arrives.given ++ bytes) old new_put reads new_reads none told_on
+      (breaks_then error b (arrives.given ++ bytes) old (part ++ bytes) now new_put passed_so breaks)
+      (cut_behind breaks.done breaks.behind part bytes breaks.is (line_of now.lines part arrives.goes_on) short)
 
 pub comes_further : (b part piece new_part : List ℕ) (old new : Moment) → Passes b (part ++ piece) old new_part new
     → IsOpen old.lines part → 0 < length piece → 8193 * old.lines + length part < 8193 * new.lines + length new_part
@@ -448,7 +423,4 @@ comes_further b part piece new_part old new passes further_on some = go passes.d
         let sum = length-append part piece in
         let same : length (part ++ piece) ≡ length new_part = ap length is in
         omega arith
-    go (first ∷ done) is lines = let short = further_on.short in omega arith
-
-pub written_length : (into rest : List ℕ) (len : ℕ) → length into ≡ len → length (take len (into ++ rest)) ≡ length into
-written_length into rest len fits = ap length (written (take len (into ++ rest)) into rest len fits refl)
+    go (first ∷ done) is lines = omega arith

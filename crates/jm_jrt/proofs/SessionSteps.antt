@@ -1,15 +1,18 @@
 -- A session goes on: what its steps do, put together.
-use Rattle.std.proofs.Common.{◌≡◌, ◌<◌, ◌≤◌, ◌+◌, ℕ, List, [], ◌∷◌, ◌++◌, Option, Some, None, option_map}
-use Rattle.std.proofs.Common.{refl, sym, ap, ◌∙◌, subst, length, arith, append-nil}
+use Rattle.std.proofs.Common.{◌≡◌, ◌<◌, ◌≤◌, ◌+◌, ℕ, List, [], ◌∷◌, ◌++◌, Option, Some, None, option_map, rules}
+use Rattle.std.proofs.Common.{refl, sym, ap, ◌∙◌, subst, length, arith, append-nil, true, false}
+use Rattle.std.specs.List.{after_first, before_first, list_any}
 use Rattle.std.proofs.lemmas.Grind.{flat_map-append}
 use Rattle.std.proofs.lemmas.List.{append_assoc, length-append}
 use Rattle.std.proofs.lemmas.List.Elements.{All-append, All-cons, All-nil}
 use Rattle.jm_bytes.specs.Metered.{RisesAtMost}
 use Rattle.jm_jrt.specs.declared.serve_error.ServeError.{ServeError}
 use Rattle.jm_jrt.specs.declared.serve_error.ServeError.TheVariants.{ReadFault, WriteFault, LongLine, TooManyLines, Memory}
-use Rattle.jm_jrt.specs.Lines.{replies}
+use Rattle.jm_jrt.specs.Lines.{is_newline, replies}
 use Rattle.jm_jrt.specs.Reply.{IsWithin, line, line_bytes, reply}
-use Rattle.jm_jrt.specs.Sessions.{BeginsTooLong, BeginsWithLine, Breaks, Fails, IsFree, IsLine, LineFails, Moment, Passes, Refuses, joined}
+use Rattle.jm_jrt.specs.Sessions.{BeginsTooLong, BeginsWithLine, Breaks, Fails, IsAnswered, IsFree, IsLine, IsOpen, LineFails, Moment, Passes}
+use Rattle.jm_jrt.specs.Sessions.{Refuses, joined}
+use Rattle.jm_jrt.proofs.FreeLaws.{front_free, whole_cut}
 use Rattle.jm_jrt.proofs.WithinLaws.{within_append, within_nothing, within_one}
 
 -- What was put
@@ -45,24 +48,12 @@ joined_one first text = ap (λ (t : List ℕ). t ++ text) (append-nil (line firs
 -- Lines that were answered
 
 pub passes_nothing : (b text : List ℕ) (old : Moment) → Passes b text old text old
-passes_nothing b text old = record {
-  done = [];
-  good = All-nil IsLine;
-  is = refl;
-  lines = omega arith;
-  put = put_nothing old.put;
-  hashes = record { least = omega arith; most = omega arith };
-  reads = within_nothing old.reads;
-}
+passes_nothing b text old = search (rules, All-nil, within_nothing, put_nothing)
 
 pub passes_then : (b text : List ℕ) (old : Moment) (behind : List ℕ) (now : Moment) (part : List ℕ) (new : Moment)
     → Passes b text old behind now → Passes b behind now part new → Passes b text old part new
 passes_then b text old behind now part new first second =
-    let a = first.lines in
-    let c = second.lines in
     let count = length-append first.done second.done in
-    let h = first.hashes in let h_least = h.least in let h_most = h.most in
-    let k = second.hashes in let k_least = k.least in let k_most = k.most in
     record {
       done = first.done ++ second.done;
       good = All-append IsLine first.done second.done first.good second.good;
@@ -75,15 +66,7 @@ passes_then b text old behind now part new first second =
 
 pub passes_more : (b text : List ℕ) (old : Moment) (part : List ℕ) (new : Moment) (more : List ℕ) → Passes b text old part new
     → Passes b (text ++ more) old (part ++ more) new
-passes_more b text old part new more passes = record {
-  done = passes.done;
-  good = passes.good;
-  is = ap (λ (t : List ℕ). t ++ more) passes.is ∙ append_assoc (joined passes.done) part more;
-  lines = passes.lines;
-  put = passes.put;
-  hashes = passes.hashes;
-  reads = passes.reads;
-}
+passes_more b text old part new more passes = search (rules, append_assoc)
 
 -- one line
 pub passes_line : (b first rest : List ℕ) (old new : Moment) → IsLine first → new.lines ≡ old.lines + 1 → new.put
@@ -102,20 +85,10 @@ passes_line b first rest old new good next put hashes reads = record {
 -- Lines that weren't
 
 long_more : (text more : List ℕ) → BeginsTooLong text → BeginsTooLong (text ++ more)
-long_more text more begins = record {
-  front = begins.front;
-  rest = begins.rest ++ more;
-  is = ap (λ (t : List ℕ). t ++ more) begins.is ∙ append_assoc begins.front begins.rest more;
-  free = begins.free;
-  long = begins.long;
-}
+long_more text more begins = search (rules, append_assoc)
 
 line_more : (first text more : List ℕ) → BeginsWithLine first text → BeginsWithLine first (text ++ more)
-line_more first text more begins = record {
-  rest = begins.rest ++ more;
-  is = ap (λ (t : List ℕ). t ++ more) begins.is ∙ append_assoc first (10 ∷ begins.rest) more;
-  good = begins.good;
-}
+line_more first text more begins = search (rules, append_assoc)
 
 pub fails_more : (error : ServeError) (b : List ℕ) (lines : ℕ) (text more : List ℕ) (put new_put : Option (List ℕ))
     → Fails error b lines text put new_put → Fails error b lines (text ++ more) put new_put
@@ -123,7 +96,7 @@ fails_more WriteFault b lines text more put new_put fails = (fails.0, line_more 
 fails_more Memory b lines text more put new_put fails = fails
 fails_more (LongLine k) b lines text more put new_put fails = (long_more text more fails.0, fails.1, fails.2, fails.3)
 fails_more TooManyLines b lines text more put new_put fails =
-    let some = fails.0 in (omega (arith, length-append text more), fails.1, fails.2)
+    (omega (arith, length-append text more), fails.1, fails.2)
 fails_more ReadFault b lines text more put new_put none = absurd none
 
 abbrev pub breaks_more : (error : ServeError) (b text : List ℕ) (old : Moment) (new_put : Option (List ℕ)) (more : List ℕ)
@@ -142,8 +115,6 @@ abbrev pub breaks_then : (error : ServeError) (b text : List ℕ) (old : Moment)
     (new_put : Option (List ℕ)) → Passes b text old behind now → Breaks error b behind now new_put → Breaks error b text old new_put
 breaks_then error b text old behind now new_put passes breaks =
     let done : List (List ℕ) = passes.done ++ breaks.done in
-    let a = passes.lines in
-    let m = breaks.most in
     let count = length-append passes.done breaks.done in
     let lines : now.lines + length breaks.done ≡ old.lines + length done = omega arith in
     record {
@@ -204,3 +175,28 @@ breaks_part error b part old within free some refuses = breaks_at_once error b p
     )
     go TooManyLines refuses = (some, refuses, refl)
     go ReadFault none = absurd none
+
+-- A line that ends in a piece, behind a part that was kept
+
+pub empty_part : (lines : ℕ) (part : List ℕ) → part ≡ [] → lines ≤ 1000000 → IsOpen lines part
+empty_part lines part empty within = search (rules, All-nil)
+
+module _ (b text : List ℕ) (old : Moment) (part rest front behind : List ℕ) (now : Moment) (goes_on : IsOpen now.lines part)
+    (passes : Passes b text old (part ++ rest) now) (some : list_any is_newline rest ≡ true)
+    (before : front ≡ before_first is_newline rest) (after : behind ≡ after_first is_newline rest) where
+  next_free : IsFree (part ++ front)
+  next_free = All-append (λ x. is_newline x ≡ false) part front goes_on.free (front_free rest front before)
+
+  next_cut : Passes b text old ((part ++ front) ++ 10 ∷ behind) now
+  next_cut = search (rules, append_assoc, whole_cut)
+
+  pub next_breaks : (error : ServeError) (new_put : Option (List ℕ)) → LineFails error b now.lines (part ++ front) now.put new_put
+      → Breaks error b text old new_put
+  next_breaks error new_put fails =
+      breaks_then error b text old ((part ++ front) ++ 10 ∷ behind) now new_put next_cut
+      (breaks_line error b (part ++ front) behind now new_put goes_on.within next_free fails)
+
+  pub next_passes : (new : Moment) (new_part : List ℕ) → IsAnswered now.lines new.lines (part ++ front) new_part
+      → new.put ≡ option_map (λ text. text ++ reply b (part ++ front)) now.put → RisesAtMost now.hashes new.hashes 4
+      → IsWithin (line_bytes b (part ++ front)) now.reads new.reads → Passes b text old (new_part ++ behind) new
+  next_passes new new_part answered put hashes reads = grind (arith, passes_then, passes_line, next_free, next_cut)

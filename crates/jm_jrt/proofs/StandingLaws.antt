@@ -1,14 +1,14 @@
 -- What stands at a path is what the content of the path's node says, and without such a node it is a
 -- root, a file, or nothing.
-use Rattle.std.proofs.Common.{arith, ◌+◌, ◌-◌, ◌*◌, ◌≤◌, length, take}
-use Rattle.std.proofs.Common.{◌≡◌, ℕ, ◌==◌, Bool, true, false, List, drop, Option, Some, None, is_some, option_map, inl, inr}
+use Rattle.std.proofs.Common.{arith, ◌+◌, ◌-◌, ◌*◌, ◌≤◌, length, rules}
+use Rattle.std.proofs.Common.{◌≡◌, ℕ, ◌==◌, Bool, true, false, List, drop, Option, Some, None, is_some, option_map}
 use Rattle.std.proofs.Common.{Result, Ok, Err, refl, sym, ap, ◌∙◌}
-use Rattle.std.specs.Prelude.{codes, if◌then◌else◌, is_none, nat_eq, option_and_then, IfNone}
+use Rattle.std.specs.Prelude.{codes, if◌then◌else◌, is_none, nat_eq, option_and_then, IfNone, IfOk}
 use Rattle.std.specs.List.{after_last, before_last, list_any, starts_with}
 use Rattle.std.specs.Str.{bytes_eq}
 use Rattle.std.proofs.lemmas.Bool.{or_cases}
 use Rattle.std.proofs.lemmas.Slice.Eq.{bytes_eq-Decides}
-use Rattle.jm_bytes.specs.Metered.{Costs, CostsAtMost, Metered, RisesAtMost}
+use Rattle.jm_bytes.specs.Metered.{CostsAtMost, Metered, RisesAtMost}
 use Rattle.jm_bytes.proofs.Choice.{same_some}
 use Rattle.jm_bytes.proofs.Cuts.{before_last_none}
 use Rattle.jm_names.specs.Names.{is_node, is_slash}
@@ -19,16 +19,21 @@ use Rattle.jm_form.specs.declared.trees.Holds.{Holds}
 use Rattle.jm_form.specs.declared.trees.Holds.TheVariants.{Children, Owners}
 use Rattle.jm_form.specs.declared.trees.Owner.{Owner}
 use Rattle.jm_form.specs.Head.{header_of, IsFileOf}
-use Rattle.jm_form.specs.TreeView.{Folder, Link, TreeItem, item_of}
+use Rattle.jm_form.specs.TreeView.{Folder, TreeItem, item_of}
 use Rattle.jm_form.specs.Validity.{look, look_with}
 use Rattle.jm_form.proofs.LocalityLaws.{whole_file}
+use Rattle.jm_reader.specs.Walk.{IsLater}
+use Rattle.jm_valid.specs.Opened.{Front}
 use Rattle.jm_jrt.specs.declared.jrt_error.JrtError.{JrtError}
 use Rattle.jm_jrt.specs.declared.jrt_error.JrtError.TheVariants.{NotThere}
+use Rattle.jm_jrt.specs.declared.trees.Standing.{Standing}
+use Rattle.jm_jrt.specs.declared.trees.Standing.TheVariants as standing
 use Rattle.jm_jrt.specs.Listed.{roots_if}
-use Rattle.jm_jrt.specs.Stat.{children_of, file, folder, has_children, in_modules, is_package, is_root, link, node_content}
+use Rattle.jm_jrt.specs.Standings.{IsIn, StandingCosts, whole}
+use Rattle.jm_jrt.specs.Stat.{children_of, file, folder, has_children, in_modules, is_package, is_root, link, link_among, node_content}
 use Rattle.jm_jrt.specs.Stat.{node_hashes, node_path, owners_of, resource, roots, stat, stat_read, stat_with}
 use Rattle.jm_jrt.specs.Told.{children_told, owners_told}
-use Rattle.jm_jrt.proofs.LinkLaws.{link_none, link_some}
+use Rattle.jm_jrt.proofs.WithinLaws.{later_then}
 
 abbrev Found : Type 0
 Found = Option (Row × List ℕ)
@@ -88,11 +93,7 @@ slash_no_node : (path : List ℕ) → bytes_eq path (codes "/") ≡ true → nod
 slash_no_node path is = ap node_path ((bytes_eq-Decides path (codes "/")).0 is)
 
 root_not_inner : (path : List ℕ) → is_root path ≡ true → starts_with nat_eq path (codes "/modules/") ≡ false
-root_not_inner path is =
-    elim (or_cases (bytes_eq path (codes "/modules")) (bytes_eq path (codes "/packages")) is) [
-      | inl one ↦ ap (λ p. starts_with nat_eq p (codes "/modules/")) ((bytes_eq-Decides path (codes "/modules")).0 one)
-      | inr one ↦ ap (λ p. starts_with nat_eq p (codes "/modules/")) ((bytes_eq-Decides path (codes "/packages")).0 one)
-    ]
+root_not_inner path is = search (rules, or_cases, bytes_eq-Decides)
 
 -- the tests of a path, in order
 module _ (b path : List ℕ) where
@@ -232,15 +233,13 @@ no_slash_no_node b path content other pack none node = absurd_none (sym (sought_
     absurd_none : ◌≡◌ {A = Option (List ℕ)} None (Some content) → ⊥
     absurd_none e = cc
 
--- the link to an owner of those that were told
-pub link_of : (owners : List Owner) (told : Result Holds JrtError) (name after : List ℕ) → Ok (Owners owners) ≡ told → name ≡ after
-    → list_any (λ o. bytes_eq after o.module) owners ≡ true → Ok (Link name) ≡ link after told
-link_of owners told name after is same some =
-    ap (λ n. Ok (Link n)) same ∙ sym (link_some after owners some) ∙ ap (link after) is
-
-pub no_link_of : (owners : List Owner) (told : Result Holds JrtError) (after : List ℕ) → Ok (Owners owners) ≡ told
-    → list_any (λ o. bytes_eq after o.module) owners ≡ false → Err NotThere ≡ link after told
-no_link_of owners told after is none = sym (link_none after owners none) ∙ ap (link after) is
+-- a link is that to one of the owners that were told
+pub linked : (b path content name : List ℕ) (owners : List Owner) → has_children path ≡ false → is_package path ≡ false
+    → name ≡ after_last is_slash path → Ok (Owners owners) ≡ owners_told b content → node_content b path ≡ Some content
+    → link_among name owners ≡ stat b path
+linked b path content name owners other pack after told node =
+    ap (link name) told ∙ ap (λ m. link m (owners_told b content)) after
+    ∙ sym (stat_said b path content node ∙ said_link b path content other pack)
 
 -- a row is found exactly where look-up finds something
 pub is_row_found : (b name : List ℕ) (row : Option Row) (there : Bool) → there ≡ is_some row
@@ -283,15 +282,19 @@ unsaid_inner b path slash inner = rw (slash, inner) refl
 pub no_resource : (b path : List ℕ) → is_node (drop 8 path) ≡ true → Err NotThere ≡ resource b path
 no_resource b path is = rw is refl
 
-pub resource_is : (b path : List ℕ) → is_node (drop 8 path) ≡ false → resource b path ≡ file (look b (drop 8 path))
-resource_is b path other = rw other refl
+-- a file is that of the path without `/modules`
+pub unsaid_file : (b path name : List ℕ) (h : Header) → header_of b ≡ Ok h → node_content b path ≡ None
+    → bytes_eq path (codes "/") ≡ false → starts_with nat_eq path (codes "/modules/") ≡ true → name ≡ drop 8 path → is_node name ≡ false
+    → file (look b name) ≡ stat b path
+unsaid_file b path name h read node slash inner is other =
+    ap (λ n. file (look b n)) is ∙ sym (stat_unsaid b path h read node ∙ unsaid_inner b path slash inner ∙ go (sym (ap is_node is) ∙ other))
+  where
+    go : is_node (drop 8 path) ≡ false → resource b path ≡ file (look b (drop 8 path))
+    go other = rw other refl
 
 -- a whole image is a file of its index
 pub index_file : (f b : List ℕ) (size : ℕ) → f ≡ b → size ≡ length b → IsFileOf f size b
-index_file f b size same long = record {
-  begins = ap (λ l. take (length l) b) same ∙ (whole_file b).begins ∙ sym same;
-  length_is = sym long;
-}
+index_file f b size same long = search (rules, whole_file)
 
 -- What it costs
 
@@ -305,22 +308,19 @@ hashes_few path = go (is_none (node_path path))
 
 pub hashes_all : (path : List ℕ) (old mid new : ℕ) → RisesAtMost old mid (node_hashes path)
     → RisesAtMost mid new (4 - node_hashes path) → RisesAtMost old new 4
-hashes_all path old mid new first next =
-    let few = hashes_few path in
-    record {
-      least = omega (arith, first.least, next.least);
-      most = omega (arith, first.least, first.most, next.least, next.most, few);
-    }
+hashes_all path old mid new first next = search (rules, hashes_few)
 
--- a file is found where no node is, and its content is read
-pub file_costs : {A : Type 0} (path : List ℕ) (content : Option A) (old found mid new : Metered) (n : ℕ)
-    → IfNone content (CostsAtMost old found (length path + 76)) → (is_some content ≡ false) × CostsAtMost found mid (length path + 76)
-    → Costs mid new n → CostsAtMost old new (2 * length path + 152 + n)
-file_costs path None old found mid new n first (none, next) last = record {
-  bytes = last.bytes ∙ next.bytes ∙ first.bytes;
-  count = record {
-    least = omega (arith, first.count.least, next.count.least, last.count);
-    most = omega (arith, first.count.least, first.count.most, next.count.least, next.count.most, last.count);
-  };
-}
-file_costs path (Some content) old found mid new n first (some, next) last = cc
+-- a file is found where no node is
+pub standing_costs : {A : Type 0} (path : List ℕ) (content : Option A) (result : Result Standing JrtError) (old found new : Metered)
+    → IfNone content (CostsAtMost old found (length path + 76)) → IsLater old found
+    → StandingCosts result (is_some content) (length path + 76) found new → StandingCosts result false (2 * length path + 152) old new
+standing_costs path content (Err error) old found new first later next = search (rules, later_then)
+standing_costs path content (Ok (standing.Folder list)) old found new first later next = search (rules, later_then)
+standing_costs path content (Ok (standing.Link name)) old found new first later next = search (rules, later_then)
+standing_costs path None (Ok (standing.File row)) old found new first later (none, next) = search (rules)
+standing_costs path (Some content) (Ok (standing.File row)) old found new first later (some, next) = search (rules)
+
+-- the first bytes that are all
+pub within_whole : (front : Front) (b : List ℕ) (result : Result Standing JrtError) → front.bytes ≡ b → front.length ≡ length b
+    → IfOk result (IsIn front) → IfOk result (IsIn (whole b))
+within_whole front b result bytes size within = search (rules)

@@ -1,13 +1,13 @@
 -- What a session took of its source, and what the sink has got at least.
-use Rattle.std.proofs.Common.{◌≡◌, ◌≤◌, ℕ, List, [], ◌∷◌, ◌++◌, Option, Some, None, option_map}
+use Rattle.std.proofs.Common.{◌≡◌, ◌≤◌, ℕ, List, [], ◌∷◌, ◌++◌, Option, Some, None, option_map, rules}
 use Rattle.std.proofs.Common.{false, refl, sym, ap, ◌∙◌, subst, length, take, arith, append-nil}
 use Rattle.std.proofs.lemmas.Bool.{false≢true}
 use Rattle.std.proofs.lemmas.List.{append_assoc, length-append}
 use Rattle.std.proofs.lemmas.List.Elements.{All-head, All-nil, All-tail}
 use Rattle.jm_outside.specs.Outcome.{PutsFront, Told}
-use Rattle.jm_jrt.specs.Lines.{is_newline}
+use Rattle.jm_jrt.specs.Lines.{is_newline, replies}
 use Rattle.jm_jrt.specs.Reply.{line}
-use Rattle.jm_jrt.specs.Sessions.{IsFree, IsLine, joined}
+use Rattle.jm_jrt.specs.Sessions.{GivesAtMost, IsFree, IsLine, IsOpen, answered_in, joined}
 
 -- What stands behind the lines that a piece ends
 
@@ -28,20 +28,27 @@ free_before (x ∷ part) piece (y ∷ first) behind free is =
     tail_of [] = []
     tail_of (z ∷ zs) = zs
 
--- the beginning of a line that was kept, and no more than a piece
-pub record Cut (behind : List ℕ) : Type 0 where
+-- the beginning of a line that was kept, and no more than so many bytes
+pub record Cut (most : ℕ) (behind : List ℕ) : Type 0 where
   pub begun : List ℕ
   pub rest : List ℕ
   pub is : behind ≡ begun ++ rest
   pub line : IsLine begun
-  pub within : length rest ≤ 65536
+  pub within : length rest ≤ most
 
 pub no_line : IsLine []
 no_line = record { free = All-nil (λ b. is_newline b ≡ false); short = omega arith }
 
+pub line_of : (lines : ℕ) (part : List ℕ) → IsOpen lines part → IsLine part
+line_of lines part goes_on = record { free = goes_on.free; short = goes_on.short }
+
+pub whole_part : (most : ℕ) (part : List ℕ) → IsLine part → Cut most part
+whole_part most part line =
+    record { begun = part; rest = []; is = sym (append-nil part); line = line; within = omega arith }
+
 -- where no line ended in the piece, the part that was kept and all of the piece; or else some of the piece
 pub cut_behind : (done : List (List ℕ)) (behind part piece : List ℕ) → part ++ piece ≡ joined done ++ behind → IsLine part
-    → length piece ≤ 65536 → Cut behind
+    → length piece ≤ 65536 → Cut 65536 behind
 cut_behind [] behind part piece is kept short = record {
   begun = part;
   rest = piece;
@@ -82,3 +89,9 @@ pub got_front : (text last : List ℕ) (out new_out : Option (List ℕ)) → Tol
 got_front text last None new_out told = tt
 got_front text last (Some old) None told = absurd told
 got_front text last (Some old) (Some new) told = (take told.0 last, told.2 ∙ append_assoc old text (take told.0 last))
+
+-- so the source gave the first lines that are answered, and no more than was cut off behind them
+pub gives_front : (most : ℕ) (b text given : List ℕ) (done : List (List ℕ)) (behind : List ℕ) (out new_out : Option (List ℕ))
+    → done ≡ take (length done) (answered_in text) → HasGot (replies b done) out new_out → given ≡ joined done ++ behind
+    → Cut most behind → GivesAtMost most b text given out new_out
+gives_front most b text given done behind out new_out first put is cut = search (rules)

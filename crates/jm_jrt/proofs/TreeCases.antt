@@ -1,5 +1,5 @@
 -- What stands at a path of an image that tells the trees of its resources, case by case.
-use Rattle.std.proofs.Common.{◌≡◌, ℕ, inl, inr, Bool, true, false, not, ◌&&◌, List, [], ◌∷◌, drop, Option}
+use Rattle.std.proofs.Common.{◌≡◌, ℕ, inl, inr, Bool, true, false, not, ◌&&◌, List, [], ◌∷◌, drop, Option, rules}
 use Rattle.std.proofs.Common.{Some, None, is_some, Result, Ok, Err, refl, sym, ap, ◌∙◌, subst}
 use Rattle.std.specs.Prelude.{codes}
 use Rattle.std.specs.Option.{ok_or}
@@ -10,7 +10,6 @@ use Rattle.std.proofs.lemmas.Bool.{and_parts, cases_Bool, false_from_ne_true, fa
 use Rattle.jm_names.specs.Names.{is_slash}
 use Rattle.jm_form.specs.declared.trees.Holds.{Holds}
 use Rattle.jm_form.specs.declared.trees.Holds.TheVariants.{Owners}
-use Rattle.jm_form.specs.declared.trees.Owner.{Owner}
 use Rattle.jm_form.specs.Nodes.{NodesAs, Tells}
 use Rattle.jm_form.specs.Trees.{holds_of, is_package_node, node_names, owners}
 use Rattle.jm_form.specs.TreeView.{TreeItem, Folder, Link, file_of, is_link, item_of, names_of, tree}
@@ -201,13 +200,7 @@ module _ (b : List ℕ) (m : Pairs) (nodes : NodesAs b (head b) (names_of m)) (v
       → is_inner path ≡ false → is_link names path ≡ list_any (λ o. bytes_eq (after_last is_slash path) o.module)
       (owners names (drop 10 (before_last is_slash path))) → link_among (after_last is_slash path)
       (owners names (drop 10 (before_last is_slash path))) ≡ ok_or (tree m path) NotThere
-  link_there path other none no_inner same =
-      let list : List Owner = owners names (drop 10 (before_last is_slash path)) in
-      elim (cases_Bool (list_any (λ o. bytes_eq (after_last is_slash path) o.module) list)) [
-        | inl some ↦ link_some (after_last is_slash path) list some ∙ ap (λ (o : Option TreeItem). ok_or o NotThere)
-            (sym (tree_link m path other none no_inner (same ∙ some)))
-        | inr nobody ↦ link_none (after_last is_slash path) list nobody ∙ nothing_there path other none no_inner (same ∙ nobody)
-      ]
+  link_there path other none no_inner same = search (rules, cases_Bool, link_none, link_some, tree_link, nothing_there)
 
   at_owner : (path : List ℕ) → bytes_eq path (codes "/") ≡ false → list_any (bytes_eq path) (node_names names) ≡ false
       → is_inner path ≡ false → is_package path ≡ false → is_package (before_last is_slash path) ≡ true → in_packages b path
@@ -239,16 +232,4 @@ module _ (b : List ℕ) (m : Pairs) (nodes : NodesAs b (head b) (names_of m)) (v
       ]
 
   pub stat_of_tree : (path : List ℕ) → IsTold path
-  stat_of_tree path =
-      elim (cases_Bool (bytes_eq path (codes "/"))) [
-        | inl slash ↦ at_slash path slash
-        | inr other ↦
-            elim (cases_Bool (is_root path)) [
-              | inl root ↦ at_root path other root
-              | inr no_root ↦
-                  elim (cases_Bool (is_inner path)) [
-                    | inl inner ↦ at_inner path other no_root inner
-                    | inr no_inner ↦ stat_other b path other no_root no_inner ∙ at_other path other no_root no_inner
-                  ]
-            ]
-      ]
+  stat_of_tree path = search (rules, cases_Bool, is_inner, stat_other, at_slash, at_root, at_inner, at_other)

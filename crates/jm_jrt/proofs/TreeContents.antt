@@ -146,7 +146,7 @@ module _ (b : List ℕ) where
   pair_word-lt [] ps has zipped j below = absurd (omega arith)
   pair_word-lt (o ∷ os) [] has zipped j below = absurd zipped
   pair_word-lt (o ∷ os) (p ∷ ps) has zipped zero below = let flag = flag_below o.empty in omega arith
-  pair_word-lt (o ∷ os) (p ∷ ps) has zipped (suc zero) below = let inside = zipped.0.below in let few = has.strings in omega arith
+  pair_word-lt (o ∷ os) (p ∷ ps) has zipped (suc zero) below = omega arith
   pair_word-lt (o ∷ os) (p ∷ ps) has zipped (suc (suc j)) below = pair_word-lt os ps has zipped.1 j (omega arith)
 
   -- and is sound

@@ -1,5 +1,5 @@
 -- The names of nodes: which there are, and how those of the two trees look.
-use Rattle.std.proofs.Common.{◌≡◌, ℕ, inl, inr, Bool, true, false, not, ◌||◌, List, [], ◌∷◌, ◌++◌, length}
+use Rattle.std.proofs.Common.{◌≡◌, ℕ, inl, inr, Bool, true, false, not, ◌||◌, List, [], ◌∷◌, ◌++◌, length, rules}
 use Rattle.std.proofs.Common.{drop, map, Contains, refl, sym, ap, ◌∙◌, subst}
 use Rattle.std.specs.Prelude.{codes, if◌then◌else◌, nat_eq}
 use Rattle.std.specs.List.{after_last, before_last, list_any, starts_with}
@@ -37,10 +37,7 @@ modules_listed names = node_listed names (codes "/modules") (contains_here (code
     ++ package_nodes names))
 
 pub packages_listed : (names : Texts) → Contains (node_names names) (codes "/packages")
-packages_listed names =
-    node_listed names (codes "/packages")
-    (contains_later (codes "/modules") (codes "/packages" ∷ inner_nodes names ++ package_nodes names) (codes "/packages")
-    (contains_here (codes "/packages") (inner_nodes names ++ package_nodes names)))
+packages_listed names = search (rules, contains_here, contains_later, node_listed)
 
 -- How they look
 
@@ -168,9 +165,7 @@ inner_is_node path is =
     node_of_third (bytes_eq path (codes "/modules")) (bytes_eq path (codes "/packages")) (is_inner path) (is_package_node path) is
 
 pub package_is_node : (path : List ℕ) → is_package path ≡ true → is_node path ≡ true
-package_is_node path is =
-    node_of_last (bytes_eq path (codes "/modules")) (bytes_eq path (codes "/packages")) (is_inner path) (is_package_node path)
-    (and_parts (is_package_node path) (not (list_any is_slash (drop 10 path))) is).0
+package_is_node path is = search (rules, and_parts, node_of_last)
 
 -- What they hold
 

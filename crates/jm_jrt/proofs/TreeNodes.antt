@@ -1,6 +1,6 @@
 -- The nodes of an image that tells the trees of names: each name of a node is looked up, and its
 -- content tells what the trees hold there.
-use Rattle.std.proofs.Common.{◌≡◌, ℕ, ◌⊎◌, inl, inr, true, false, List, map, Option, Some, None, Contains, refl, sym, ap, ◌∙◌, subst}
+use Rattle.std.proofs.Common.{◌≡◌, ℕ, ◌⊎◌, inl, inr, true, false, List, map, Option, Some, None, Contains, refl, sym, ap, ◌∙◌, subst, rules}
 use Rattle.std.specs.List.{list_any}
 use Rattle.std.specs.Str.{bytes_eq}
 use Rattle.std.proofs.lemmas.Bool.{cases_Bool, false≢true}
@@ -31,9 +31,7 @@ pub record NodeMissing (b : List ℕ) (names : List (List ℕ)) (path : List ℕ
 
 -- a path that is found in a list of names is one of them
 pub from_listed : (names : List (List ℕ)) (path : List ℕ) → list_any (bytes_eq path) names ≡ true → Contains names path
-from_listed names path listed =
-    let (name, there, same) = from_any (bytes_eq path) names listed in
-    subst (Contains names) (sym ((bytes_eq-Decides path name).0 same)) there
+from_listed names path listed = search (rules, bytes_eq-Decides, from_any)
 
 pub to_listed : (names : List (List ℕ)) (path : List ℕ) → Contains names path → list_any (bytes_eq path) names ≡ true
 to_listed names path there = any_contains (bytes_eq path) names path there ((bytes_eq-Decides path path).1 refl)

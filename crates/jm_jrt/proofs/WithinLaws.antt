@@ -1,5 +1,5 @@
 -- Bounds of what lines cost, one after another.
-use Rattle.std.proofs.Common.{◌≡◌, ℕ, List, [], ◌∷◌, ◌++◌, Option, Some, None, refl, sym, ap, ◌∙◌, subst, arith}
+use Rattle.std.proofs.Common.{◌≡◌, ℕ, List, [], ◌∷◌, ◌++◌, Option, Some, None, refl, sym, ap, ◌∙◌, subst, arith, rules}
 use Rattle.jm_bytes.specs.Metered.{Metered}
 use Rattle.jm_reader.specs.Walk.{IsLater}
 use Rattle.jm_jrt.specs.Lines.{both_bounds, lines_bytes}
@@ -18,15 +18,12 @@ within_later (Some n) old new cost = record { bytes = cost.bytes; count = cost.c
 
 pub later_then : (old now new : Metered) → IsLater old now → IsLater now new → IsLater old new
 later_then old now new first second =
-    let one = first.count in let two = second.count in record { bytes = second.bytes ∙ first.bytes; count = omega arith }
+    record { bytes = second.bytes ∙ first.bytes; count = omega arith }
 
 pub within_then : (m n : Option ℕ) (old now new : Metered) → IsWithin m old now → IsWithin n now new → IsWithin (both_bounds m n) old new
 within_then None n old now new first second = later_then old now new first (within_later n now new second)
 within_then (Some m) None old now new first second = later_then old now new (within_later (Some m) old now first) second
 within_then (Some m) (Some n) old now new first second =
-    let one = first.count in
-    let two = second.count in
-    let a = one.least in let b = one.most in let c = two.least in let d = two.most in
     record { bytes = second.bytes ∙ first.bytes; count = record { least = omega arith; most = omega arith } }
 
 both_zero : (n : Option ℕ) → both_bounds (Some 0) n ≡ n
@@ -45,16 +42,12 @@ both_assoc (Some k) (Some m) (Some n) = ap (λ (j : ℕ). Some j) (omega arith)
 
 pub bytes_append : (b : List ℕ) (front lines : List (List ℕ)) → lines_bytes b (front ++ lines) ≡ both_bounds (lines_bytes b front)
     (lines_bytes b lines)
-bytes_append b [] lines = sym (both_zero (lines_bytes b lines))
-bytes_append b (first ∷ front) lines =
-    ap (both_bounds (line_bytes b first)) (bytes_append b front lines)
-    ∙ both_assoc (line_bytes b first) (lines_bytes b front) (lines_bytes b lines)
+bytes_append b [] lines = search (rules, both_zero)
+bytes_append b (first ∷ front) lines = search (rules, both_assoc, (bytes_append b front lines))
 
 pub within_append : (b : List ℕ) (front lines : List (List ℕ)) (old now new : Metered) → IsWithin (lines_bytes b front) old now
     → IsWithin (lines_bytes b lines) now new → IsWithin (lines_bytes b (front ++ lines)) old new
-within_append b front lines old now new first second =
-    subst (λ (bound : Option ℕ). IsWithin bound old new) (sym (bytes_append b front lines)) (within_then (lines_bytes b front)
-    (lines_bytes b lines) old now new first second)
+within_append b front lines old now new first second = search (rules, within_then, bytes_append)
 
 pub within_one : (b first : List ℕ) (old new : Metered) → IsWithin (line_bytes b first) old new
     → IsWithin (lines_bytes b (first ∷ [])) old new

@@ -1,4 +1,5 @@
-ghost use Rattle.std.specs.Prelude.{◌≡◌, ◌<◌, ◌≤◌, true, IfSome, IfNone, None, is_some, option_map};
+ghost use Rattle.std.specs.Prelude.{◌≡◌, ◌<◌, ◌≤◌, ◌+◌, true, IfSome, IfNone, None, is_some};
+ghost use Rattle.std.specs.Prelude.{drop, length, option_map, take};
 ghost use Rattle.std.specs.List.{list_any};
 ghost use Rattle.std.specs.Str.{bytes_eq};
 ghost use Rattle.jm_jrt.specs.declared.words.Form.TheVariants as form;
@@ -50,6 +51,30 @@ pub fn owner_at<'a, R: Ledger>(
     Some(Owned { empty, module })
 }
 
+/// That many bytes of a text that ends, and one more, if so many stand behind its place.
+fn bytes_at<'a, R: Ledger>(
+    index: &Index<'a>,
+    place: u32,
+    len: usize,
+    reads: &mut Meter<R>,
+) -> Option<&'a [u8]>
+    requires metered { reads.old.bytes ≡ index.now.bytes }
+    requires ends { text_ends (strings index.now.bytes (head index.now.bytes)) place ≡ true }
+    ensures part { IfSome result (λ part. part.now
+        ≡ take (len + 1) (drop place (strings index.now.bytes (head index.now.bytes)))) }
+    ensures size { IfSome result (λ part. length part.now ≡ len + 1) }
+    ensures none { IfNone result
+        (length (drop place (strings index.now.bytes (head index.now.bytes))) ≤ len) }
+    ensures reads { IsLater reads.old reads.new }
+{
+    let (buf, header) = (index.buf(), index.header());
+    if len >= (header.strings - place) as usize {
+        return None;
+    }
+    let start = header.strings_place() + place as usize;
+    Some(buf.part(start, len + 1, reads))
+}
+
 /// The text at a place of the strings, if it is this one. The byte at which it would end is looked
 /// at first, so that a long text costs little, however many pairs lead to it.
 fn text_if<'a, R: Ledger>(
@@ -65,20 +90,14 @@ fn text_if<'a, R: Ledger>(
     ensures same { IfSome result (λ text. text.now ≡ asked.now) }
     ensures reads { IsLater reads.old reads.new }
 {
-    let (buf, header) = (index.buf(), index.header());
-    let behind = (header.strings - place) as usize;
-    if asked.len() >= behind {
-        return None;
-    }
-    let start = header.strings_place() + place as usize;
-    let part = buf.part(start, asked.len() + 1, reads);
+    let part = bytes_at(index, place, asked.len(), reads)?;
     let (_, end) = part.split_at(asked.len());
     let ended = end == b"\0".as_slice();
     if !ended {
         return None;
     }
     let text = front(part)?;
-    if asked == text { Some(text) } else { None }
+    (asked == text).then_some(text)
 }
 
 /// The module that is asked for, as the image has it, if it is one of the owners.

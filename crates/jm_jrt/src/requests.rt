@@ -87,6 +87,16 @@ fn answer_ls<H: Ledger, R: Ledger>(
     Ok(text)
 }
 
+/// The path of the package of this name.
+fn package_path(alloc: Global, name: &[u8]) -> Result<Vec<u8>, NoMemory>
+    ensures { IfOk result (λ path. path.items ≡ codes "/packages/" ++ name.now) }
+{
+    let mut path = Vec::new(alloc);
+    extend(&mut path, b"/packages/")?;
+    extend(&mut path, name)?;
+    Ok(path)
+}
+
 /// The reply of `owner` with the name of a package.
 fn answer_owner<H: Ledger, R: Ledger>(
     alloc: Global,
@@ -101,9 +111,7 @@ fn answer_owner<H: Ledger, R: Ledger>(
     ensures hashes { RisesAtMost hashes.old hashes.new 2 }
     ensures reads { IsLater reads.old reads.new }
 {
-    let mut path = Vec::new(alloc);
-    extend(&mut path, b"/packages/")?;
-    extend(&mut path, name)?;
+    let path = package_path(alloc, name)?;
     match owner(image, path.as_slice(), hashes, reads) {
         Err(error) => error_reply(alloc, error),
         Ok(None) => line(alloc, b"none"),
@@ -118,34 +126,30 @@ fn reply_to<H: Ledger, R: Ledger>(
     line: &[u8],
     hashes: &mut Steps<H>,
     reads: &mut Meter<R>,
-) -> Result<Text, NoMemory>
+) -> Result<Vec<u8>, NoMemory>
     requires { reads.old.bytes ≡ image.now }
-    ensures reply { IfOk result (λ text. text ≡ reply.reply image.now line.now) }
+    ensures reply { IfOk result (λ text. text.items ≡ reply.reply image.now line.now) }
     ensures hashes { RisesAtMost hashes.old hashes.new 4 }
     ensures reads { reply.IsWithin (reply.line_bytes image.now line.now) reads.old reads.new }
 {
     let Some((verb, argument)) = cut_at_first(b' ', line) else {
-        return Ok(Text::from_vec(replies::line(alloc, b"error Request")?));
+        return replies::line(alloc, b"error Request");
     };
     let argument = to_modified(alloc, argument)?;
     let argument = argument.as_slice();
     if verb == b"find".as_slice() {
-        let text = answer_find(alloc, image, argument, hashes, reads)?;
-        return Ok(Text::from_vec(text));
+        return answer_find(alloc, image, argument, hashes, reads);
     }
     if verb == b"stat".as_slice() {
-        let text = answer_stat(alloc, image, argument, hashes, reads)?;
-        return Ok(Text::from_vec(text));
+        return answer_stat(alloc, image, argument, hashes, reads);
     }
     if verb == b"ls".as_slice() {
-        let text = answer_ls(alloc, image, argument, hashes, reads)?;
-        return Ok(Text::from_vec(text));
+        return answer_ls(alloc, image, argument, hashes, reads);
     }
     if verb == b"owner".as_slice() {
-        let text = answer_owner(alloc, image, argument, hashes, reads)?;
-        return Ok(Text::from_vec(text));
+        return answer_owner(alloc, image, argument, hashes, reads);
     }
-    Ok(Text::from_vec(replies::line(alloc, b"error Request")?))
+    replies::line(alloc, b"error Request")
 }
 
 /// The reply to a line of a session, which is given without its newline (this project's rule). It
@@ -169,5 +173,5 @@ pub fn answer<H: Ledger, R: Ledger>(
     ensures reads { reply.IsWithin (reply.line_bytes image.now line.now) reads.old reads.new }
 {
     let text = reply_to(alloc, image, line, hashes, reads)?;
-    Ok(text)
+    Ok(Text::from_vec(text))
 }

@@ -184,20 +184,20 @@ fn take_piece<O: Sink, H: Ledger, R: Ledger>(
     keep_part(progress, rest)
 }
 
-/// The next bytes of a source at the front of a slice, and how many; 0 at its end.
-fn take<I: Source>(input: &mut I, into: &mut [u8]) -> Result<usize, ServeError>
-    requires { 0 < length into.old }
-    ensures within { IfOk result (λ n. n ≤ length into.new) }
-    ensures length { length into.new ≡ length into.old }
+/// The next bytes of a source at the front of a piece, and how many; 0 at its end.
+fn take<I: Source>(input: &mut I, piece: &mut Vec<u8>) -> Result<usize, ServeError>
+    requires { 0 < length piece.old.items }
+    ensures within { IfOk result (λ n. n ≤ length piece.new.items) }
+    ensures length { length piece.new.items ≡ length piece.old.items }
     ensures moved { IfOk result (λ n. Told (I.rest input.old) (I.rest input.new)
-        (λ old new. old ≡ take n into.new ++ new)) }
+        (λ old new. old ≡ take n piece.new.items ++ new)) }
     ensures end { IfOk result (λ n. n ≡ 0 → Shows (I.rest input.old) (λ rest. rest ≡ [])) }
     ensures err { OnErr result (I.rest input.new ≡ I.rest input.old) }
     ensures fault { IfErr result (λ error. error ≡ ServeError.ReadFault) }
     ensures faults { CountsFaults (I.faults input.old) (I.faults input.new) (IsOk result)
         (IsErrOf result ServeError.ReadFault) }
 {
-    match input.take(into) {
+    match input.take(piece.as_mut_slice()) {
         Ok(count) => Ok(count),
         Err(_) => Err(ServeError::ReadFault),
     }
@@ -245,7 +245,7 @@ fn serve_ended<I: Source, O: Sink, H: Ledger, R: Ledger>(
         part: Vec::new(alloc),
     };
     loop {
-        let count = take(input, piece.as_mut_slice())?;
+        let count = take(input, &mut piece)?;
         if count == 0 {
             return Ok(progress);
         }

@@ -1,4 +1,4 @@
-ghost use Rattle.std.specs.Prelude.{◌≡◌, ◌+◌, ◌-◌, ℕ, List, length, None, Some};
+ghost use Rattle.std.specs.Prelude.{◌≡◌, ◌+◌, ◌-◌, ◌*◌, ℕ, List, length, None, Some};
 ghost use Rattle.std.specs.Prelude.{IfNone, IfOk, IfSome};
 ghost use Rattle.std.specs.Prelude.{false, is_some, option_map, true};
 ghost use Rattle.jm_bytes.specs.Metered.{CostsAtMost, RisesAtMost};
@@ -8,7 +8,7 @@ ghost use Rattle.jm_form.specs.Places.{contents};
 ghost use Rattle.jm_reader.specs.Look.{head, SoundIn};
 ghost use Rattle.jm_reader.specs.Walk.{IsLater};
 ghost use Rattle.jm_jrt.specs.Nodes.{IsOf, item_as, on_ok, StatCosts};
-ghost use Rattle.jm_jrt.specs.Standings.{IsIn, StandingCosts, standing_as};
+ghost use Rattle.jm_jrt.specs.Standings.{IsIn, StandingCosts, standing_as, whole};
 ghost use Rattle.jm_jrt.specs.Stat as answers;
 ghost use Rattle.jm_jrt.specs.TreesShown.{IsItemOfTrees, IsOwnerOfTrees};
 ghost use Rattle.jm_jrt.specs.Views.{held_by};
@@ -72,7 +72,7 @@ fn said_by<'a, R: Ledger>(
         → answers.node_content b path.now ≡ Some content.now
         → standing_as b result ≡ answers.stat b path.now }
     ensures within { IfOk result (IsIn index.now) }
-    ensures reads { StandingCosts result true path.now reads.old reads.new }
+    ensures reads { StandingCosts result true (length path.now + 76) reads.old reads.new }
 {
     if has_children(path) {
         check(index, content, Form::Children, reads)?;
@@ -106,7 +106,7 @@ fn said_by_none<'a, H: Ledger, R: Ledger>(
         → standing_as b result ≡ answers.stat b path.now }
     ensures within { IfOk result (IsIn index.now) }
     ensures hashes { RisesAtMost hashes.old hashes.new (4 - answers.node_hashes path.now) }
-    ensures reads { StandingCosts result false path.now reads.old reads.new }
+    ensures reads { StandingCosts result false (length path.now + 76) reads.old reads.new }
 {
     let _header = index.header();
     if path == b"/".as_slice() {
@@ -142,7 +142,8 @@ fn said_at<'a, H: Ledger, R: Ledger>(
         → standing_as b result ≡ answers.stat b path.now }
     ensures within { IfOk result (IsIn index.now) }
     ensures hashes { RisesAtMost hashes.old hashes.new (4 - answers.node_hashes path.now) }
-    ensures reads { StandingCosts result (is_some content.entry) path.now reads.old reads.new }
+    ensures reads { StandingCosts result (is_some content.entry) (length path.now + 76)
+        reads.old reads.new }
 {
     match content {
         Some(content) => said_by(index, path, content, reads),
@@ -189,6 +190,27 @@ fn node_content<'a, H: Ledger, R: Ledger>(
     Some(find(image, node_path(path)?, hashes, reads)?.bytes)
 }
 
+/// What stands at a path of the two trees, a file by its row.
+fn stands_at<'a, H: Ledger, R: Ledger>(
+    image: &Image<'a>,
+    path: &[u8],
+    hashes: &mut Steps<H>,
+    reads: &mut Meter<R>,
+) -> Result<Standing<'a>, JrtError>
+    requires { reads.old.bytes ≡ image.now }
+    ensures item { standing_as image.now result ≡ answers.stat image.now path.now }
+    ensures trees { IsItemOfTrees image.now path.now (standing_as image.now result) }
+    ensures within { IfOk result (IsIn (whole image.now)) }
+    ensures hashes { RisesAtMost hashes.old hashes.new 4 }
+    ensures reads { StandingCosts result false (2 * length path.now + 152) reads.old reads.new }
+{
+    let (index, header) = (image.index(), image.header());
+    prove!(header.locations <= u32::MAX);
+    prove!(header.strings <= u32::MAX);
+    let content = node_content(image, path, hashes, reads);
+    said_at(&index, path, content, hashes, reads)
+}
+
 /// What stands at a path of the two trees (JEP 220); never `NotFolder`.
 ///
 /// It costs at most four hashes, and for a file at most twice the path's bytes, 152 more and those
@@ -206,11 +228,7 @@ pub fn stat<'a, H: Ledger, R: Ledger>(
     ensures hashes { RisesAtMost hashes.old hashes.new 4 }
     ensures cost { StatCosts result path.now reads.old reads.new }
 {
-    let (index, header) = (image.index(), image.header());
-    prove!(header.locations <= u32::MAX);
-    prove!(header.strings <= u32::MAX);
-    let content = node_content(image, path, hashes, reads);
-    match said_at(&index, path, content, hashes, reads)? {
+    match stands_at(image, path, hashes, reads)? {
         Standing::Folder(list) => Ok(Node::Folder(list)),
         Standing::File(row) => Ok(Node::File(jm_reader::content(image, &row, reads))),
         Standing::Link(module) => Ok(Node::Link(module)),

@@ -1,5 +1,5 @@
 -- Names of resources in the order in which they are linked: by module, and then by path.
-use Rattle.std.proofs.Common.{◌≡◌, ◌≢◌, ◌⊎◌, inl, inr, ℕ, Bool, true, false, cond, List, [], ◌∷◌, ◌++◌, All}
+use Rattle.std.proofs.Common.{◌≡◌, ◌≢◌, ◌⊎◌, inl, inr, ℕ, Bool, true, false, cond, List, [], ◌∷◌, ◌++◌, All, rules}
 use Rattle.std.proofs.Common.{AllPairs, Contains, refl, sym, ap, subst, ◌∙◌}
 use Rattle.std.proofs.lemmas.Bool.{false≢true}
 use Rattle.std.proofs.lemmas.List.Elements.{All-contains, All-head, All-nil, All-tail}
@@ -49,14 +49,7 @@ module _ (m k p q : List ℕ) (whole : list_any is_slash m ≡ false) (other : l
   modules_first before = inl (rw (module_again m p whole, module_again k q other) before)
 
   pub paths_first : m ≡ k → is_before p q ≡ true → IsFirst (file_name m p) (file_name k q)
-  paths_first same before = inr (
-    module_again m p whole ∙ same ∙ sym (module_again k q other),
-    rw (
-      path_again m p whole,
-      path_again
-          k q other,
-    ) before,
-  )
+  paths_first same before = search (rules, module_again, path_again)
 
 pub before_front : (front p q : List ℕ) → is_before (front ++ p) (front ++ q) ≡ is_before p q
 before_front [] p q = refl
@@ -86,12 +79,7 @@ abbrev NotAfter : Named → Named → Type 0
 NotAfter e f = e.0 ≢ f.0 → is_before e.0 f.0 ≡ true
 
 before_then : (e f g : Named) → is_before e.0 f.0 ≡ true → NotAfter f g → is_before e.0 g.0 ≡ true
-before_then e f g one other =
-    elim (stand f.0 g.0) [
-      | stands_before h ↦ before_further e.0 f.0 g.0 one h
-      | is_one h ↦ subst (λ n. is_before e.0 n ≡ true) h one
-      | stands_behind h ↦ absurd (one_way g.0 f.0 h (other (λ same. before_apart g.0 f.0 h (sym same))))
-    ]
+before_then e f g one other = search (rules, before_apart, before_further, one_way, stand, stands_before, is_one, stands_behind)
 
 placed_sorted : (e : Named) (es : List Named) → AllPairs NotAfter es → AllPairs NotAfter (placed e es)
 placed_sorted e [] sorted = AllPairs-cons NotAfter e [] (All-nil (NotAfter e)) sorted

@@ -1,6 +1,6 @@
 -- What a link of the modules of an image in a file did, from what its steps did: what was read is that
 -- of one file of the index.
-use Rattle.std.proofs.Common.{inl, inr, ◌≡◌, ◌≤◌, ◌+◌, ℕ, Bool, true, false, not, List, ◌++◌, length, map, All}
+use Rattle.std.proofs.Common.{inl, inr, ◌≡◌, ◌≤◌, ◌+◌, ℕ, Bool, true, false, not, List, ◌++◌, length, map, All, rules}
 use Rattle.std.proofs.Common.{Contains, Option, Some, None, Result, Ok, Err, refl, sym, ap, subst, ◌∙◌, arith}
 use Rattle.std.proofs.lemmas.Bool.{true≢false}
 use Rattle.std.proofs.lemmas.List.Elements.{All-append, All-contains, All-weaker, Contains-append_cases}
@@ -67,13 +67,7 @@ module _ (index : Front) (asked : Request) (path output : List ℕ) (old : Shelf
   did : (b : List ℕ) → IsFiled index old.told path b → (answer : Result Summary LinkStop) (new : ShelfSeen) (last : ℕ)
       → ImageLinks b asked output answer old new → TakesLinked b asked first last
       → FiledLinks index asked path output answer old new first last
-  did b filed answer new last links takes = record {
-    bytes = b;
-    filed = filed;
-    links = links;
-    gives_back = given_back b asked output answer old new links;
-    takes = takes;
-  }
+  did b filed answer new last links takes = search (rules, given_back)
 
   -- a file with what was read of the descriptors
   record ShownFile (answer : Result ImageModules LinkStop) : Type 0 where

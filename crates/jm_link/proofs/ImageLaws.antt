@@ -1,6 +1,6 @@
 -- The modules of an image as what a link is made of: their resources are no nodes and have names that
 -- differ; and what a link of them does, from what its steps did.
-use Rattle.std.proofs.Common.{◌⊎◌, ◌≡◌, ◌<◌, ℕ, Bool, true, false, not, List, [], ◌∷◌, ◌++◌, length}
+use Rattle.std.proofs.Common.{◌⊎◌, ◌≡◌, ◌<◌, ℕ, Bool, true, false, not, List, [], ◌∷◌, ◌++◌, length, rules}
 use Rattle.std.proofs.Common.{map, All, Contains, Option, Some, None, option_map, slice_get, Result}
 use Rattle.std.proofs.Common.{Ok, Err, refl, sym, ap, subst, ◌∙◌}
 use Rattle.std.proofs.lemmas.List.Elements.{All-contains, All-cons, All-map, All-nil, All-weaker}
@@ -180,10 +180,7 @@ module _ (b : List ℕ) (asked : Request) (modules : ImageModules) (seen : List 
   -- no closure was had
   pub unclosed : (r : Refusal) → (reserved modules.candidates ≡ Some r) ⊎ IsRefusedAmong modules.candidates asked.roots asked.bind r
       → ImageComesTo b asked (Err r)
-  unclosed r why =
-      let same = subst (λ (cs : List Candidate). (reserved cs ≡ Some r) ⊎ IsRefusedAmong cs asked.roots asked.bind r)
-      holds.candidates why in
-      ((Ok seen, shows, refused_among asked (seen_candidates seen) (resources_seen seen) r same), tt)
+  unclosed r why = search (rules, refused_among)
 
   module _ (places : List ℕ) (closed : ClosesAmong modules.candidates asked.roots asked.bind (Ok places)) where
     abbrev as_seen : ClosesAmong (seen_candidates seen) asked.roots asked.bind (Ok places)

@@ -1,6 +1,6 @@
 -- What plug-ins leave that have no order: resources that were there, in their order, and what each
 -- descriptor says.
-use Rattle.std.proofs.Common.{◌≡◌, ℕ, inl, inr, Bool, true, List, [], ◌∷◌, All, AllPairs, Contains, filter}
+use Rattle.std.proofs.Common.{◌≡◌, ℕ, inl, inr, Bool, true, List, [], ◌∷◌, All, AllPairs, Contains, filter, rules}
 use Rattle.std.proofs.Common.{cond, false, map, Result, Ok, Err, refl, sym, ap, subst, ◌∙◌, not, suc, arith}
 use Rattle.std.proofs.lemmas.Bool.{false≢true}
 use Rattle.std.proofs.lemmas.Slice.Eq.{bytes_eq-Decides}
@@ -69,11 +69,7 @@ module _ (release : ℕ) (R : List ℕ → List ℕ → Type 0) where
     pub order : Ordered old → Ordered new
 
   same_kept : (rs : List Written) → AreKept rs rs
-  same_kept rs = record {
-    each = λ r there. record { was = r; there = there; name = refl; says = λ named d says. says };
-    order =
-        λ ordered. ordered;
-  }
+  same_kept rs = search (rules)
 
   further : (one two three : List Written) → AreKept one two → AreKept two three → AreKept one three
   further one two three first second = record {
@@ -168,9 +164,8 @@ module _ (release : ℕ) (R : List ℕ → List ℕ → Type 0) where
       go false is = (refl, λ named d says. says)
 
   with_plain : (rs : List Written) → AreKept rs (map with_plain_map rs)
-  with_plain [] = same_kept []
-  with_plain (p ∷ rs) =
-      let one = plain_one p in more_kept p (with_plain_map p) rs (map with_plain_map rs) one.0 one.1 (with_plain rs)
+  with_plain [] = search (rules, same_kept)
+  with_plain (p ∷ rs) = search (rules, more_kept, plain_one, (with_plain rs))
 
   acted : (one : Plugin) (old new : List Written) → leaves_order one ≡ true → act release one old ≡ Ok new → AreKept old new
   acted (plugin.Exclude patterns) old new leaves is =

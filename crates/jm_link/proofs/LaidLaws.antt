@@ -1,21 +1,20 @@
 -- The image of resources that nothing refuses is what their layout is.
-use Rattle.std.proofs.Common.{◌≡◌, ◌≢◌, ℕ, false, List, [], ◌∷◌, ◌++◌, ◌≤◌, get_or, length, length-append}
+use Rattle.std.proofs.Common.{◌≡◌, ◌≢◌, ℕ, false, List, [], ◌∷◌, ◌++◌, ◌≤◌, length, length-append, rules}
 use Rattle.std.proofs.Common.{All, AllPairs, Option, Some, None, is_none, option_and_then, option_map, refl}
-use Rattle.std.proofs.Common.{sym, ap, subst, ◌∙◌, arith}
+use Rattle.std.proofs.Common.{subst, arith}
 use Rattle.std.proofs.lemmas.Bool.{ltb-false}
 use Rattle.std.proofs.lemmas.List.{get_or_append_left, get_or_default}
-use Rattle.std.specs.Prelude.{nat_lt, slice_index}
+use Rattle.std.specs.Prelude.{nat_lt}
 use Rattle.jm_bytes.specs.Checks.{fault_if}
 use Rattle.jm_bytes.proofs.CheckLaws.{fault_if_none, no_fault_head, no_fault_tail}
 use Rattle.jm_bytes.specs.declared.words.Order.{Order}
-use Rattle.jm_form.specs.Greedy.{GreedyTable, bucket_of}
+use Rattle.jm_form.specs.Greedy.{GreedyTable}
 use Rattle.jm_form.specs.Layout.{Written, all_names, all_sized, layout_table, layout_with, names_of}
 use Rattle.jm_form.specs.Serves.{Serves}
-use Rattle.jm_form.specs.Table.{redirect_of, slot_of}
 use Rattle.jm_form.specs.Trees.{first_clash, node_names}
 use Rattle.jm_names.specs.NameFaults.{IsSound}
 use Rattle.jm_names.specs.Names.{is_node}
-use Rattle.jm_writer.specs.Drafts.{entry_limit, image_limit, large_number}
+use Rattle.jm_writer.specs.Drafts.{entry_limit, image_limit}
 use Rattle.jm_writer.specs.Laid.{CanLay, IsLaidOut}
 use Rattle.jm_writer.proofs.LaidNames.{all_names_are}
 use Rattle.jm_writer.proofs.LaidOut.{laid_out}
@@ -29,19 +28,10 @@ use Rattle.jm_bytes.proofs.Choice.{mapped_none, same_some}
 
 -- each has a slot of its own
 served_apart : (names : List (List ℕ)) (slots : ℕ) (words given : List ℕ) → Serves names slots words given → AllPairs (λ m n. m ≢ n) names
-served_apart names slots words given serves i j d before inside same =
-    let first = get_or_default names i d [] (omega arith) in
-    let second = get_or_default names j d [] inside in
-    let led : Some (slice_index given i) ≡ Some (slice_index given j) =
-    sym (serves.led i (omega arith)) ∙ ap (λ name. slot_of slots name (redirect_of (slice_index words (bucket_of slots name))))
-    (sym first ∙ same ∙ second) ∙ serves.led j inside in
-    serves.apart i j 0 before (omega (arith, serves.given_length)) (same_some (slice_index given i) (slice_index given j) led)
+served_apart names slots words given serves i j d before inside same = search (rules, get_or_default, same_some)
 
 pairs_front : {X : Type 0} (R : X → X → Type 0) (xs ys : List X) → AllPairs R (xs ++ ys) → AllPairs R xs
-pairs_front R xs ys all i j d before inside =
-    let long = length-append xs ys in
-    subst (λ x. R x (get_or xs j d)) (get_or_append_left xs ys d i (omega arith))
-    (subst (R (get_or (xs ++ ys) i d)) (get_or_append_left xs ys d j inside) (all i j d before (omega arith)))
+pairs_front R xs ys all i j d before inside = search (rules, length-append, get_or_append_left)
 
 -- What nothing refuses
 
@@ -67,28 +57,14 @@ module _ (order : Order) (resources : List Written) (free : layout_refusal order
 
   -- the image by the table is within the limit
   within : option_and_then (size_refusal order resources) (layout_table resources) ≡ None
-  within =
-      no_fault_head (option_and_then (size_refusal order resources) (layout_table resources)) []
-      (no_fault_tail (fault_if (is_none (layout_table resources)) (refusal.NoTable 64)) (behind_table order resources)
-      (no_fault_tail (fault_if (nat_lt entry_limit (length (all_sized resources))) (refusal.TooMany (length (all_sized resources))))
-      (behind_count order resources)
-      (no_fault_tail (option_map (λ name. refusal.Clash name) (first_clash (names_of resources))) (behind_clash order resources) free)))
+  within = grind (arith, option_and_then, no_fault_head, no_fault_tail)
 
   has_table : is_none (layout_table resources) ≡ false
-  has_table =
-      fault_if_none (is_none (layout_table resources)) (refusal.NoTable 64)
-      (no_fault_head (fault_if (is_none (layout_table resources)) (refusal.NoTable 64)) (behind_table order resources)
-      (no_fault_tail (fault_if (nat_lt entry_limit (length (all_sized resources))) (refusal.TooMany (length (all_sized resources))))
-      (behind_count order resources)
-      (no_fault_tail (option_map (λ name. refusal.Clash name) (first_clash (names_of resources))) (behind_clash order resources) free)))
+  has_table = search (rules, fault_if_none, no_fault_head, no_fault_tail)
 
   -- the image by a table is within the limit
   small : (table : GreedyTable) → layout_table resources ≡ Some table → length (layout_with order resources table) ≤ image_limit
-  small table is =
-      ltb-false image_limit (length (layout_with order resources table))
-      (fault_if_none (nat_lt image_limit (length (layout_with order resources table)))
-      (refusal.TooLarge (large_number order resources table))
-      (sym (ap (option_and_then (size_refusal order resources)) is) ∙ within))
+  small table is = search (rules, option_and_then, ltb-false, fault_if_none, within)
 
   -- what has a table within the limit has names that differ
   apart_with : (table : GreedyTable) → layout_table resources ≡ Some table → AllPairs (λ m n. m ≢ n) (names_of resources)

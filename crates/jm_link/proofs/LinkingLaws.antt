@@ -1,5 +1,5 @@
 -- What a link does, from what its steps did.
-use Rattle.std.proofs.Common.{◌≡◌, ◌≢◌, ◌⊎◌, ◌<◌, ◌∙◌, inl, inr, ℕ, suc, Bool, true, false, List, [], ◌∷◌}
+use Rattle.std.proofs.Common.{◌≡◌, ◌≢◌, ◌⊎◌, ◌<◌, inl, inr, ℕ, suc, Bool, true, false, List, [], ◌∷◌, rules}
 use Rattle.std.proofs.Common.{length, map, All, AllPairs, Option, Some, None, Result, Ok, Err, refl, sym, ap}
 use Rattle.std.proofs.Common.{subst}
 use Rattle.std.proofs.lemmas.List.Elements.{All-contains, All-map}
@@ -17,7 +17,6 @@ use Rattle.jm_names.specs.ByName.{Named}
 use Rattle.jm_names.specs.NameFaults.{IsSound}
 use Rattle.jm_names.specs.Names.{is_node}
 use Rattle.jm_outside.specs.Files.{Files}
-use Rattle.jm_outside.specs.Holds.{Holds, HoldsPart}
 use Rattle.jm_outside.specs.Outcome.{Rose, Shows}
 use Rattle.jm_outside.specs.Shelves.{ShelfFailed, ShelfSeen}
 use Rattle.jm_plugins.specs.Plugins.{Applies}
@@ -60,45 +59,29 @@ breaks_as One Other path old new same (inr (image, comes, part)) = inr (image, s
 pub links_as : (One Other : Result LinkedImage Refusal → Type 0) (Absent Missing : Type 0) (path : List ℕ)
     (answer : Result Summary LinkStop) (old new : ShelfSeen) → ((r : Result LinkedImage Refusal) → One r → Other r)
     → (Absent → Missing) → LinksBy One Absent path answer old new → LinksBy Other Missing path answer old new
-links_as One Other Absent Missing path (Ok summary) old new same absent (image, comes, is, stands) =
-    (image, same (Ok image) comes, is, stands)
-links_as One Other Absent Missing path (Err (stop.Refused refusal)) old new same absent (comes, files) = (same (Err refusal) comes, files)
-links_as One Other Absent Missing path (Err (stop.NotThere listed)) old new same absent (none, files) = (absent none, files)
-links_as One Other Absent Missing path (Err stop.Outside) old new same absent (breaks, failed) =
-    (breaks_as One Other path old new same breaks, failed)
-links_as One Other Absent Missing path (Err stop.Memory) old new same absent breaks = breaks_as One Other path old new same breaks
+links_as One Other Absent Missing path (Ok summary) old new same absent (image, comes, is, stands) = search (rules)
+links_as One Other Absent Missing path (Err (stop.Refused refusal)) old new same absent (comes, files) = search (rules)
+links_as One Other Absent Missing path (Err (stop.NotThere listed)) old new same absent (none, files) = search (rules)
+links_as One Other Absent Missing path (Err stop.Outside) old new same absent (breaks, failed) = search (rules, breaks_as)
+links_as One Other Absent Missing path (Err stop.Memory) old new same absent breaks = search (rules, breaks_as)
 
 -- the same from before some calls that changed no file, none of which failed
 module _ (Comes : Result LinkedImage Refusal → Type 0) (Absent : Type 0) (path : List ℕ) (first old new : ShelfSeen)
     (files : old.told ≡ first.told) (kept : old.faults ≡ first.faults) where
   breaks_sooner : BreaksOff Comes path old new → BreaksOff Comes path first new
-  breaks_sooner (inl same) = inl (same ∙ files)
-  breaks_sooner (inr (image, comes, part)) = inr (
-    image,
-    comes,
-    subst (λ (told : Option Files). HoldsPart told path image.bytes
-        new.told) files part,
-  )
+  breaks_sooner (inl same) = search (rules)
+  breaks_sooner (inr (image, comes, part)) = search (rules)
 
   failed_sooner : ShelfFailed old new → ShelfFailed first new
   failed_sooner = subst (λ (n : ℕ). Rose n new.faults) kept
 
   pub links_sooner : (answer : Result Summary LinkStop) → LinksBy Comes Absent path answer old new
       → LinksBy Comes Absent path answer first new
-  links_sooner (Ok summary) (image, comes, is, stands) = (
-    image,
-    comes,
-    is,
-    record {
-      holds = subst (λ (told : Option Files). Holds told path image.bytes new.told) files stands.holds;
-      whole = stands.whole;
-      kept = stands.kept ∙ kept;
-    },
-  )
-  links_sooner (Err (stop.Refused refusal)) (comes, same) = (comes, same ∙ files)
-  links_sooner (Err (stop.NotThere listed)) (none, same) = (none, same ∙ files)
-  links_sooner (Err stop.Outside) (breaks, failed) = (breaks_sooner breaks, failed_sooner failed)
-  links_sooner (Err stop.Memory) breaks = breaks_sooner breaks
+  links_sooner (Ok summary) (image, comes, is, stands) = search (rules)
+  links_sooner (Err (stop.Refused refusal)) (comes, same) = search (rules)
+  links_sooner (Err (stop.NotThere listed)) (none, same) = search (rules)
+  links_sooner (Err stop.Outside) (breaks, failed) = search (rules, breaks_sooner, failed_sooner)
+  links_sooner (Err stop.Memory) breaks = search (rules, breaks_sooner)
 
 -- A step that ended the work
 

@@ -1,6 +1,6 @@
 -- A link that made an image, wherever it took its modules from: what it was made of, and that the
 -- image is what the layout of its resources is.
-use Rattle.std.proofs.Common.{◌≡◌, ◌<◌, ℕ, false, List, [], All, Contains, slice_get, length, Option, Some}
+use Rattle.std.proofs.Common.{◌≡◌, ◌<◌, ℕ, false, List, [], All, Contains, slice_get, length, Option, Some, rules}
 use Rattle.std.proofs.Common.{None, append-nil, unwrap_or, Result, Ok, Err, refl, sym, ap, subst, ◌∙◌, codes}
 use Rattle.std.proofs.lemmas.List.{map-id}
 use Rattle.std.proofs.lemmas.List.Elements.{All-map, All-nil}
@@ -75,8 +75,7 @@ image_links asked (Err fault) linked is = cc
 
 seen_once : (release : ℕ) (b : List ℕ) (ss : List SeenModule) → ModulesOf release b (Ok ss) → (others : List Candidate)
     → Shows release (Image b) others → others ≡ seen_candidates ss
-seen_once release b ss shows others (ss', shows', is) =
-    is ∙ ap seen_candidates (same_ok {E = RelinkFault} ss' ss (modules_once release b (Ok ss') (Ok ss) shows' shows))
+seen_once release b ss shows others (ss', shows', is) = search (rules, same_ok, modules_once)
 
 from_seen : (b : List ℕ) (asked : Request) (image : LinkedImage) → AreBytes b → (ss : List SeenModule)
     → ModulesOf asked.release b (Ok ss) → LinksAmong asked (seen_candidates ss) (resources_seen ss) (Ok image)

@@ -1,5 +1,5 @@
 -- The modules of an image in a file, from what was read of their descriptors.
-use Rattle.std.proofs.Common.{◌≡◌, ◌≢◌, ◌≤◌, ◌+◌, ℕ, true, List, [], length, map, All, AllPairs, Contains, Option}
+use Rattle.std.proofs.Common.{◌≡◌, ◌≢◌, ◌≤◌, ◌+◌, ℕ, true, List, [], length, map, All, AllPairs, Contains, Option, rules}
 use Rattle.std.proofs.Common.{Result, Ok, Err, refl, sym, ap, subst, ◌∙◌, arith}
 use Rattle.std.proofs.lemmas.List.Elements.{All-contains, All-nil}
 use Rattle.std.proofs.lemmas.List.{length-map}
@@ -51,24 +51,13 @@ module _ (index : Front) (h : Header) (images : IsIndex index.bytes index.length
 
   -- nothing was read
   nothing_read : AreRead index told path []
-  nothing_read = record {
-    agree = λ p q there. absurd (contains_none p there);
-    sizes = λ b filed k d below. absurd (omega (arith, below));
-    contents = λ b filed. shown_all told (Contains (map named (entries_of b))) [] (λ p there. absurd (contains_none p there));
-  }
+  nothing_read = search (rules, contains_none, shown_all)
 
   -- a step gave up before the modules were known
   gave_up : (given : LinkStop) (handed new : ℕ) → ((b : List ℕ) → ShowsIn release b (Err given))
       → ((b : List ℕ) → IsOfIndex b → new ≤ handed + sizes (infos_of b))
       → ReadsModules index told path release (Err given) handed new
-  gave_up given handed new stops takes = record {
-    images = (h, images);
-    read = [];
-    are = nothing_read;
-    infos = All-nil (λ (r : Named). is_info r ≡ true);
-    shows = λ b file has. stops b;
-    takes = takes;
-  }
+  gave_up given handed new stops takes = search (rules, All-nil, nothing_read)
 
   -- for want of memory, with nothing read
   pub no_memory : (handed : ℕ) → ReadsModules index told path release (Err stop.Memory) handed handed

@@ -1,22 +1,19 @@
 -- A link of told files comes to one image or to one refusal.
-use Rattle.std.proofs.Common.{◌≡◌, ℕ, List, length, Option, Some, None, Result, Ok, Err, sym, ◌∙◌, subst}
+use Rattle.std.proofs.Common.{◌≡◌, ℕ, List, Option, Some, None, Result, Ok, Err, sym, ◌∙◌, rules}
 use Rattle.jm_bytes.specs.declared.words.Order.{Order}
 use Rattle.jm_closure.proofs.OnceLaws.{closes_once}
 use Rattle.jm_closure.specs.declared.candidate.Candidate.{Candidate}
 use Rattle.jm_closure.specs.declared.fault.CloseFault.{CloseFault}
 use Rattle.jm_form.specs.Layout.{Written}
 use Rattle.jm_modpath.specs.declared.refusal.PathRefusal.{PathRefusal}
-use Rattle.jm_modpath.specs.Modules.{candidates, path_refusal, visible}
 use Rattle.jm_outside.specs.Files.{Files}
 use Rattle.jm_plugins.specs.declared.chain.BadClass.{BadClass}
 use Rattle.jm_plugins.specs.ComputedPlugins.{apply}
 use Rattle.jm_plugins.proofs.ComputedPluginsLaws.{applies_only}
 use Rattle.jm_texts.specs.declared.refusal.Refusal.{Refusal}
-use Rattle.jm_link.specs.Chosen.{Chosen, reserved, roots_among}
+use Rattle.jm_link.specs.Chosen.{reserved}
 use Rattle.jm_link.specs.Linked.{IsClosedTo, IsFoundTo, IsGatheredTo, IsLinkedOf, IsPathTo, IsPluggedTo}
 use Rattle.jm_link.specs.Linked.{LinkedImage, LinksAmong, LinksTo, PlugsTo, Request}
-use Rattle.jm_link.specs.Resources.{resources_in}
-use Rattle.jm_texts.specs.NameRefusals.{first_bad_name}
 use Rattle.jm_link.proofs.ChosenLaws.{chosen_below}
 
 abbrev Answer : Type 0
@@ -30,8 +27,7 @@ plugged_once order modules (Err fault) a b one other = one ∙ sym other
 -- what is laid out is what the plug-ins are computed to leave
 pub plugs_computed : (asked : Request) (modules : ℕ) (resources : List Written) (r : Answer) → PlugsTo asked modules resources r
     → IsPluggedTo asked.order modules (apply asked.release asked.plugins resources) r
-plugs_computed asked modules resources r (left, applies, is) =
-    subst (λ o. IsPluggedTo asked.order modules o r) (applies_only asked.release asked.plugins resources left applies) is
+plugs_computed asked modules resources r (left, applies, is) = search (rules, applies_only)
 
 gathered_once : (asked : Request) (modules : ℕ) (resources : List Written) (bad : Option Refusal) (a b : Answer)
     → IsGatheredTo asked modules resources bad a → IsGatheredTo asked modules resources bad b → a ≡ b
@@ -42,17 +38,12 @@ gathered_once asked modules resources None a b one other =
 
 closed_once : (asked : Request) (resources : List ℕ → List Written) (closed : Result (List ℕ) CloseFault) (a b : Answer)
     → IsClosedTo asked resources closed a → IsClosedTo asked resources closed b → a ≡ b
-closed_once asked resources (Ok places) a b one other =
-    gathered_once asked (length places) (resources places) (first_bad_name (resources places)) a b one other
-closed_once asked resources (Err fault) a b one other = one ∙ sym other
+closed_once asked resources (Ok places) a b one other = search (rules, gathered_once)
+closed_once asked resources (Err fault) a b one other = search (rules)
 
 linked_once : (asked : Request) (found : List Candidate) (resources : List ℕ → List Written) (a b : Answer)
     → IsLinkedOf asked found resources a → IsLinkedOf asked found resources b → a ≡ b
-linked_once asked found resources a b (closed, closes, is) (closed', closes', is') =
-    let roots = roots_among found asked.roots in
-    let same = closes_once found (Chosen asked.bind found roots) (chosen_below asked.bind found roots) roots closed closed' closes
-    closes' in
-    closed_once asked resources closed' a b (subst (λ c. IsClosedTo asked resources c a) same is) is'
+linked_once asked found resources a b (closed, closes, is) (closed', closes', is') = search (rules, closes_once, chosen_below, closed_once)
 
 found_once : (asked : Request) (found : List Candidate) (resources : List ℕ → List Written) (taken : Option Refusal) (a b : Answer)
     → IsFoundTo asked found resources taken a → IsFoundTo asked found resources taken b → a ≡ b
@@ -66,13 +57,10 @@ among_once asked found resources a b one other = found_once asked found resource
 
 path_once : (files : Files) (directories : List (List ℕ)) (asked : Request) (given : Option PathRefusal) (a b : Answer)
     → IsPathTo files directories asked given a → IsPathTo files directories asked given b → a ≡ b
-path_once files directories asked (Some given) a b one other = one ∙ sym other
-path_once files directories asked None a b one other =
-    let found = visible asked.release files directories in
-    among_once asked (candidates found) (resources_in files found) a b one other
+path_once files directories asked (Some given) a b one other = search (rules)
+path_once files directories asked None a b one other = search (rules, among_once)
 
 -- the rule of a link has one answer
 pub links_once : (files : Files) (directories : List (List ℕ)) (asked : Request) (a b : Answer) → LinksTo files directories asked a
     → LinksTo files directories asked b → a ≡ b
-links_once files directories asked a b one other =
-    path_once files directories asked (path_refusal asked.release files directories) a b one other
+links_once files directories asked a b one other = search (rules, path_once)

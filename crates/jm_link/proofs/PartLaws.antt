@@ -1,6 +1,6 @@
 -- Contents that were read as parts of an image's file, side by side with what they were read for.
-use Rattle.std.proofs.Common.{inl, inr, ◌≡◌, ◌≢◌, ◌<◌, ◌+◌, ◌-◌, ℕ, not, List, [], ◌∷◌, ◌++◌, drop, length, map, min, All}
-use Rattle.std.proofs.Common.{AllPairs, Contains, filter, get_or, take, Option, Some, None, option_map, Ok, Err, Result, refl, sym, ap}
+use Rattle.std.proofs.Common.{inl, inr, ◌≡◌, ◌≢◌, ◌<◌, ◌+◌, ◌-◌, ℕ, not, List, [], ◌∷◌, ◌++◌, drop, length, map, min, All, rules}
+use Rattle.std.proofs.Common.{AllPairs, Contains, filter, get_or, take, Option, Some, None, Ok, Err, Result, refl, sym, ap}
 use Rattle.std.proofs.Common.{subst, ◌∙◌}
 use Rattle.std.proofs.lemmas.List.{length-drop, length-take, take_more}
 use Rattle.std.proofs.lemmas.List.Sums.{sum_by_push}
@@ -24,7 +24,7 @@ use Rattle.jm_form.proofs.HeadLaws.{header_fits}
 use Rattle.jm_form.proofs.LocalityLaws.{same_entries, same_index}
 use Rattle.jm_names.specs.ByName.{Named}
 use Rattle.jm_names.specs.Names.{is_node}
-use Rattle.jm_outside.specs.Files.{Files, part}
+use Rattle.jm_outside.specs.Files.{Files}
 use Rattle.jm_outside.specs.Outcome.{Shows}
 use Rattle.jm_reader.specs.Listing.{IsIndex}
 use Rattle.jm_reader.specs.Walk.{entries_of, entries_with}
@@ -70,20 +70,18 @@ module _ {A B : Type 0} where
   -- what is the same of elements that stand side by side
   pub zipped_same : {K : Type 0} (R : A → B → Type 0) (one : A → K) (other : B → K) (xs : List A) (ys : List B) → AllZip R xs ys
       → ((x : A) (y : B) → R x y → other y ≡ one x) → map other ys ≡ map one xs
-  zipped_same R one other [] [] both same = refl
-  zipped_same R one other [] (y ∷ ys) both same = absurd both
-  zipped_same R one other (x ∷ xs) [] both same = absurd both
-  zipped_same R one other (x ∷ xs) (y ∷ ys) both same =
-      ap (λ k. k ∷ map other ys) (same x y both.0) ∙ ap (λ ks. one x ∷ ks) (zipped_same R one other xs ys both.1 same)
+  zipped_same R one other [] [] both same = search (rules)
+  zipped_same R one other [] (y ∷ ys) both same = search (rules)
+  zipped_same R one other (x ∷ xs) [] both same = search (rules)
+  zipped_same R one other (x ∷ xs) (y ∷ ys) both same = search (rules, (zipped_same R one other xs ys both.1 same))
 
 -- Extents
 
 -- what holds of the content at an extent of a told file holds of what was read there
 pub content_read : (told : Option Files) (path b : List ℕ) (x : Extent) (text : List ℕ) → IsAt told path b
     → IsReadAt told path x text → (P : List ℕ → Type 0) → P (content_at b x) → Shows told (λ files. P text)
-content_read None path b x text at read P holds = tt
-content_read (Some files) path b x text at read P holds =
-    subst P (same_some (content_at b x) text (ap (option_map (λ (bytes : List ℕ). part bytes x.at x.size)) at ∙ read.shown)) holds
+content_read None path b x text at read P holds = search (rules)
+content_read (Some files) path b x text at read P holds = search (rules, same_some)
 
 -- what is shown of each element
 pub shown_all : {X : Type 0} (told : Option Files) (P : X → Type 0) (xs : List X)

@@ -1,8 +1,8 @@
 -- Relinking an image gives it back.
-use Rattle.std.proofs.Common.{◌≡◌, ◌≢◌, ◌<◌, ◌≤◌, ◌↔◌, ℕ, suc, ◌+◌, Bool, true, false, List, [], ◌∷◌, ◌++◌}
+use Rattle.std.proofs.Common.{◌≡◌, ◌≢◌, ◌<◌, ◌≤◌, ◌↔◌, ℕ, suc, ◌+◌, Bool, true, false, List, [], ◌∷◌, ◌++◌, rules}
 use Rattle.std.proofs.Common.{append_assoc, length, length-append, map, All, AllPairs, Contains}
 use Rattle.std.proofs.Common.{IsPermutation, Option, Some, None, option_map, slice_get, Result, Ok, Err, refl}
-use Rattle.std.proofs.Common.{sym, ap, subst, ◌∙◌, codes}
+use Rattle.std.proofs.Common.{sym, ap, subst, ◌∙◌}
 use Rattle.std.proofs.lemmas.Bool.{false≢true}
 use Rattle.std.proofs.lemmas.List.{length-map}
 use Rattle.std.proofs.lemmas.List.FromFn.{length-range_with_len}
@@ -69,9 +69,8 @@ laid_parts order modules left (Some refusal) image is = cc
 plugged_parts : (order : Order) (modules : ℕ) (r : Result (List Written) BadClass) (image : LinkedImage)
     → IsPluggedTo order modules r (Ok image) → (left : List Written) × (r ≡ Ok left) × (layout_refusal order left ≡ None)
     × (image ≡ image_with order modules left)
-plugged_parts order modules (Ok left) image is =
-    let parts = laid_parts order modules left (layout_refusal order left) image is in (left, refl, parts.0, parts.1)
-plugged_parts order modules (Err fault) image is = cc
+plugged_parts order modules (Ok left) image is = search (rules, laid_parts)
+plugged_parts order modules (Err fault) image is = search (rules)
 
 gathered_parts : (asked : Request) (modules : ℕ) (rs : List Written) (o : Option Refusal) (image : LinkedImage)
     → IsGatheredTo asked modules rs o (Ok image) → (o ≡ None) × IsPluggedTo asked.order modules (apply asked.release asked.plugins rs)
@@ -92,22 +91,7 @@ found_parts asked found gathered (Some refusal) image is = cc
 
 pub made_parts : (asked : Request) (found : List Candidate) (gathered : List ℕ → List Written) (image : LinkedImage)
     → LinksAmong asked found gathered (Ok image) → IsMade asked found gathered image
-made_parts asked found gathered image is =
-    let first = found_parts asked found gathered (reserved found) image is in
-    let closed = closed_parts asked gathered first.1.0 image first.1.2 in
-    let sound = gathered_parts asked (length closed.0) (gathered closed.0) (first_bad_name (gathered closed.0)) image closed.2 in
-    let plugged = plugged_parts asked.order (length closed.0) (apply asked.release asked.plugins (gathered closed.0)) image sound.1 in
-    record {
-      free = first.0;
-      places = closed.0;
-      closes = subst (Closes found (roots_among found asked.roots) (Chosen asked.bind found (roots_among found asked.roots))) closed.1
-          first.1.1;
-      sound = sound.0;
-      left = plugged.0;
-      plugged = plugged.1;
-      fits = plugged.2;
-      is = plugged.3;
-    }
+made_parts asked found gathered image is = search (rules, plugged_parts, gathered_parts, closed_parts, found_parts)
 
 -- What an image holds that stands for resources
 
@@ -116,11 +100,7 @@ module _ (b : List ℕ) (rs : List Written) (stands : Stands b rs) where
   moved = subst (λ h. IsPermutation (resources (entries_with b h)) rs) (sym stands.1.header) stands.2
 
   pub held : (r : Written) → Contains (resources_of b) r ↔ Contains rs r
-  held r = (
-    λ there. Contains-permutation (resources_of b) rs r moved there,
-    λ there. Contains-permutation rs (resources_of b) r
-        (IsPermutation-sym (resources_of b) rs moved) there,
-  )
+  held r = search (rules, Contains-permutation, IsPermutation-sym, moved)
 
   pub names_apart : AllPairs (λ (e f : Written). e.0 ≢ f.0) rs
   names_apart = differ_moved (λ (r : Written). r.0) (resources_of b) rs moved (resources_differ b)
@@ -129,9 +109,7 @@ module _ (b : List ℕ) (rs : List Written) (stands : Stands b rs) where
 
 called_some : (found : List Candidate) (name : List ℕ) → is_called found name ≡ true → (c : Candidate) × Contains found c
     × (closure.name_of c ≡ name)
-called_some found name is =
-    let one = from_any (λ (c : Candidate). bytes_eq name (closure.name_of c)) found is in
-    (one.0, one.1, sym ((bytes_eq-Decides name (closure.name_of one.0)).0 one.2))
+called_some found name is = search (rules, bytes_eq-Decides, from_any)
 
 uncalled : (found others : List Candidate) → ((c : Candidate) → Contains others c → (d : Candidate) × Contains found d
     × (closure.name_of d ≡ closure.name_of c)) → (name : List ℕ) → is_called found name ≡ false → is_called others name ≡ false
@@ -147,9 +125,7 @@ uncalled found others from name none = go (is_called others name) refl
 
 free_again : (found others : List Candidate) → ((c : Candidate) → Contains others c → (d : Candidate) × Contains found d
     × (closure.name_of d ≡ closure.name_of c)) → reserved found ≡ None → reserved others ≡ None
-free_again found others from free =
-    let none = free_names found free in
-    rw (uncalled found others from (codes "modules") none.0, uncalled found others from (codes "packages") none.1) refl
+free_again found others from free = search (rules, free_names, uncalled)
 
 good_name : (rs : List Written) (r : Written) → first_bad_name rs ≡ None → Contains rs r → name_refusal r ≡ None
 good_name rs r none there = All-contains (λ o. o ≡ None) (map name_refusal rs) (name_refusal r) (no_fault_all (map name_refusal rs)

@@ -1,5 +1,5 @@
 -- The files that are linked: sorted, module by module, checked and read.
-use Rattle.std.proofs.Common.{◌≡◌, ◌≢◌, ℕ, ◌+◌, ◌<◌, List, [], ◌∷◌, ◌++◌, append-nil, arith, length}
+use Rattle.std.proofs.Common.{◌≡◌, ◌≢◌, ℕ, ◌+◌, ◌<◌, List, [], ◌∷◌, ◌++◌, append-nil, arith, length, rules}
 use Rattle.std.proofs.Common.{length-append, map, take, get_or, All, AllPairs, Contains, IsUtf8, IsPermutation, Option}
 use Rattle.std.proofs.Common.{Some, None, IfSome, unwrap_or, slice_get, refl, sym, ap, subst, ◌∙◌}
 use Rattle.std.proofs.lemmas.Grind.{flat_map-append}
@@ -143,16 +143,10 @@ put_read told f read old new put told_file found = record {
 module _ (now : Option Files) (done : List ResourceFile) (f : ResourceFile) (pool new : List Named) (puts : PutsRead now f pool new) where
   pub read_more : (told : Option Files) → now ≡ told → Shows told (λ files. pool ≡ resources_of files (map pair_of done))
       → Shows told (λ files. new ≡ resources_of files (map pair_of (done ++ f ∷ [])))
-  read_more told same so_far =
-      told_both told _ _ _ (λ files are is. puts.put ∙ ap (λ rs. rs ++ (f.name, puts.bytes) ∷ []) are
-      ∙ ap (λ bytes. resources_of files (map pair_of done) ++ (f.name, bytes) ∷ []) is
-      ∙ sym (ap (resources_of files) (map-append pair_of done (f ∷ [])) ∙ map-append (λ (n : Named). (n.0, bytes_at files n.1))
-      (map pair_of done) (pair_of f ∷ []))) so_far (subst (λ t. Shows t (λ files. puts.bytes ≡ bytes_at files f.path)) same puts.shown)
+  read_more told same so_far = search (rules, map-append, told_both)
 
   pub names_more : names_of pool ≡ file_names done → names_of new ≡ file_names (done ++ f ∷ [])
-  names_more so_far =
-      ap names_of puts.put ∙ map-append (λ (n : Named). n.0) pool ((f.name, puts.bytes) ∷ []) ∙ ap (λ names. names ++ f.name ∷ []) so_far
-      ∙ sym (map-append (λ (g : ResourceFile). g.name) done (f ∷ []))
+  names_more so_far = search (rules, map-append)
 
   pub described_more : All (HoldsDescribed pool) done → All (HoldsDescribed new) (done ++ f ∷ [])
   described_more so_far =

@@ -1,6 +1,6 @@
 -- The names of all files that are linked differ, where the modules' names do.
-use Rattle.std.proofs.Common.{◌≡◌, ◌≢◌, ℕ, ◌<◌, Bool, true, false, ◌&&◌, List, [], ◌∷◌, ◌++◌, length, map}
-use Rattle.std.proofs.Common.{All, AllPairs, Contains, Some, option_map, slice_get, refl, sym, ap, subst, ◌∙◌}
+use Rattle.std.proofs.Common.{◌≡◌, ◌≢◌, ℕ, ◌<◌, Bool, true, false, ◌&&◌, List, [], ◌∷◌, ◌++◌, length, map, rules}
+use Rattle.std.proofs.Common.{All, AllPairs, Contains, Some, option_map, slice_get, refl, sym, ap, ◌∙◌}
 use Rattle.std.proofs.Common.{suc, arith}
 use Rattle.std.proofs.lemmas.Bool.{false≢true}
 use Rattle.std.proofs.lemmas.List.{append_cancel_left}
@@ -37,9 +37,7 @@ legal_bytes : (name : List ℕ) → is_legal name ≡ true → list_all is_legal
 legal_bytes name legal = both_last _ (list_all is_legal_byte name) legal
 
 no_slash : (b : ℕ) (name : List ℕ) → 47 ≡ b → list_all is_legal_byte (b ∷ name) ≡ true → ⊥
-no_slash b name is legal =
-    let slashed : list_all is_legal_byte (47 ∷ name) ≡ true = subst (λ c. list_all is_legal_byte (c ∷ name) ≡ true) (sym is) legal in
-    false≢true slashed
+no_slash b name is legal = cc
 
 -- what stands before the slash behind a legal name is the name
 cut_same : (n m x y : List ℕ) → list_all is_legal_byte n ≡ true → list_all is_legal_byte m ≡ true → n ++ 47 ∷ x ≡ m ++ 47 ∷ y → n ≡ m
@@ -110,6 +108,4 @@ link_names_apart found places texts differ within apart =
 pub file_names_apart : (found : List VisibleModule) (places : List ℕ) (fs : List ResourceFile) → map pair_of fs
     ≡ link_files found places → All HasTexts found → NamesDiffer (candidates found) → All (λ p. p < length found) places
     → AllPairs (λ p q. p ≢ q) places → AllPairs (λ a b. a ≢ b) (file_names fs)
-file_names_apart found places fs is texts differ within apart =
-    subst (AllPairs (λ (a b : List ℕ). a ≢ b)) (sym (ap names_of is) ∙ names_of_files fs) (link_names_apart found places texts
-    differ within apart)
+file_names_apart found places fs is texts differ within apart = search (rules, names_of_files, link_names_apart)

@@ -1,7 +1,7 @@
 -- What the class of a module says stays as it is when its debug information is left out or a list
 -- of its packages is added, and such a class isn't compacted. So what plug-ins make of a class of a
 -- release is one of that release, and of each later one.
-use Rattle.std.proofs.Common.{◌≡◌, ◌≤◌, ℕ, inl, inr, Bool, true, false, cond, List, [], ◌∷◌, Contains, Option}
+use Rattle.std.proofs.Common.{◌≡◌, ◌≤◌, ℕ, inl, inr, Bool, true, false, cond, List, [], ◌∷◌, Contains, Option, rules}
 use Rattle.std.proofs.Common.{Some, None, Result, Ok, Err, refl, sym, ap, subst, ◌∙◌, filter, codes}
 use Rattle.std.proofs.Common.{map, not}
 use Rattle.std.proofs.lemmas.Bool.{false≢true}
@@ -48,11 +48,7 @@ pub record Says (release : ℕ) (bytes : List ℕ) (d : Descriptor) : Type 0 whe
 
 -- so are they for a later release
 pub says_later : (release later : ℕ) → release ≤ later → (bytes : List ℕ) (d : Descriptor) → Says release bytes d → Says later bytes d
-says_later release later rises bytes d says = record {
-  class = says.class;
-  reads = reads_for-later release later rises bytes says.class says.reads;
-  info = says.info;
-}
+says_later release later rises bytes d says = search (rules, reads_for-later)
 
 -- Without debug information
 
@@ -92,9 +88,7 @@ info_by c modules mains =
     else with_body c.pool (only_body modules) (main_of c.pool mains)
 
 pub stripped_info : (c : ClassData) → info_of (strip c) ≡ info_of c
-stripped_info c =
-    ap (λ bs. info_by c bs (main_bodies (strip c))) (kept_bodies c.pool (codes "Module") refl c.attributes)
-    ∙ ap (info_by c (module_bodies c)) (kept_bodies c.pool (codes "ModuleMainClass") refl c.attributes)
+stripped_info c = search (rules, kept_bodies)
 
 pub stripped_says : (release : ℕ) (bytes : List ℕ) (c : ClassData) (d : Descriptor) → ReadsFor release bytes c → info_of c ≡ Ok d
     → Says release (stripped_text c) d
@@ -172,8 +166,7 @@ info_parts true false major said d is = is
 
 pub said_body : (c : ClassData) (d : Descriptor) → info_of c ≡ Ok d → with_body c.pool (only_body (module_bodies c))
     (main_of c.pool (main_bodies c)) ≡ Ok d
-said_body c d is = info_parts (is_module c.access) (nat_lt c.major 53) c.major (with_body c.pool (only_body (module_bodies c))
-    (main_of c.pool (main_bodies c))) d is
+said_body c d is = search (rules, info_parts)
 
 has_module : (c : ClassData) (d : Descriptor) → info_of c ≡ Ok d → HasModule c
 has_module c d is =
@@ -197,9 +190,7 @@ unlisted_fails : (pool : List SlotData) (a : AttributeData) (bytes : List ℕ) �
 unlisted_fails pool a bytes name body walk = rw (body, name) refl
 
 sixth : {X : Type 0} (a b c d e f : X) → Contains (a ∷ b ∷ c ∷ d ∷ e ∷ f ∷ []) f
-sixth a b c d e f =
-    contains_later a (b ∷ c ∷ d ∷ e ∷ f ∷ []) f (contains_later b (c ∷ d ∷ e ∷ f ∷ []) f (contains_later c (d ∷ e ∷ f ∷ []) f
-    (contains_later d (e ∷ f ∷ []) f (contains_later e (f ∷ []) f (contains_here f [])))))
+sixth a b c d e f = search (rules, contains_here, contains_later)
 
 back_fails : (c : ClassData) → HasModule c → Fails (back_step c)
 back_fails c has =

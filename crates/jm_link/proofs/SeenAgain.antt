@@ -1,6 +1,6 @@
 -- The modules that the resources of some modules show, where the descriptor of each stands among
 -- them: these modules, with the same descriptors, and only packages that they had.
-use Rattle.std.proofs.Common.{◌≡◌, ◌≢◌, ◌≤◌, ◌↔◌, inl, inr, ℕ, true, false, cond, List, map, All, AllPairs}
+use Rattle.std.proofs.Common.{◌≡◌, ◌≢◌, ◌≤◌, ◌↔◌, inl, inr, ℕ, true, false, cond, List, map, All, AllPairs, rules}
 use Rattle.std.proofs.Common.{Contains, Option, Some, None, Ok, refl, sym, ap, subst, ◌∙◌}
 use Rattle.std.proofs.lemmas.Slice.Eq.{bytes_eq-Decides}
 use Rattle.std.specs.List.{filter_map, flat_map, list_any}
@@ -101,11 +101,7 @@ module _ (release : ℕ) (cs : List Candidate) (rs : List Written) (are : AreOf 
   files_of c = filter_map (file_in (closure.name_of c)) rs
 
   file_is : (m : List ℕ) (r : Written) (f : Named) → file_in m r ≡ Some f → (module_of r.0 ≡ m) × ((path_of r.0, r.1) ≡ f)
-  file_is m r f is =
-      elim (chosen (bytes_eq (module_of r.0) m) (Some (path_of r.0, r.1)) None (Some f) is) [
-        | inl passes ↦ ((bytes_eq-Decides (module_of r.0) m).0 passes.0, same_some (path_of r.0, r.1) f passes.1)
-        | inr fails ↦ cc
-      ]
+  file_is m r f is = search (rules, bytes_eq-Decides, chosen, same_some)
 
   files_from : (c : Candidate) (path content : List ℕ) → Contains (files_of c) (path, content)
       → Contains rs (file_name (closure.name_of c) path, content)

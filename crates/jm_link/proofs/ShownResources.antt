@@ -1,6 +1,6 @@
 -- What a module path and an image hand to a link are resources of their modules, by module and then
 -- by path.
-use Rattle.std.proofs.Common.{◌≡◌, ◌≢◌, ◌<◌, ℕ, zero, suc, Bool, true, false, ◌&&◌, cond, List, [], ◌∷◌, ◌++◌}
+use Rattle.std.proofs.Common.{◌≡◌, ◌≢◌, ◌<◌, ℕ, zero, suc, Bool, true, false, ◌&&◌, cond, List, [], ◌∷◌, ◌++◌, arith, rules}
 use Rattle.std.proofs.Common.{drop, filter, length, map, take, All, AllPairs, Contains, Some, option_map}
 use Rattle.std.proofs.Common.{slice_get, Result, Ok, Err, refl, sym, ap, subst, ◌∙◌, not}
 use Rattle.std.proofs.lemmas.Bool.{false≢true}
@@ -160,8 +160,7 @@ module _ (release : ℕ) (files : Files) (directories : List (List ℕ))
       (class_packages_are names) among)
 
   shown_says : (m : VisibleModule) → IsShown m → Says release (bytes_at files (info_path m.folder)) m.candidate.descriptor
-  shown_says m is = subst (Says release (bytes_at files (info_path m.folder)))
-      (ap (λ (k : VisibleModule). k.candidate.descriptor) is.is) is.says
+  shown_says m is = search (rules)
 
   abbrev Comes : Named → Named → Type 0
   Comes e f = IsFirstOrOne e.0 f.0
@@ -251,10 +250,9 @@ bytes_drop (suc n) [] all = all
 bytes_drop (suc n) (x ∷ xs) all = bytes_drop n xs (All-tail (λ b. b < 256) x xs all)
 
 bytes_take : (n : ℕ) (xs : List ℕ) → IsBytes xs → IsBytes (take n xs)
-bytes_take zero xs all = All-nil (λ b. b < 256)
-bytes_take (suc n) [] all = All-nil (λ b. b < 256)
-bytes_take (suc n) (x ∷ xs) all = All-cons (λ b. b < 256) x (take n xs) (All-head (λ b. b < 256) x xs all)
-    (bytes_take n xs (All-tail (λ b. b < 256) x xs all))
+bytes_take zero xs all = grind (arith, All-nil)
+bytes_take (suc n) [] all = grind (arith, All-nil)
+bytes_take (suc n) (x ∷ xs) all = grind (arith, All-cons, All-head, All-tail, (bytes_take n xs (All-tail (λ b. b < 256) x xs all)))
 
 content_with : (b : List ℕ) (header : Result Header HeaderFault) (r : Written) → IsBytes b
     → Contains (resources (entries_with b header)) r → IsBytes r.1

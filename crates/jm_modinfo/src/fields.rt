@@ -29,7 +29,8 @@ fn name(
     kind: Kind,
 ) -> Result<SharedText, Or<InfoFault>>
     ensures class { texts.new ≡ texts.old }
-    ensures text { Gives (λ text. text) (reading Short (layout.named texts.old.pool kind) cursor.old)
+    ensures text { Gives (λ text. text)
+        (reading Short (layout.named texts.old.pool kind) cursor.old)
         result cursor.new }
 {
     let at = cursor.place();
@@ -48,7 +49,8 @@ fn name(
 /// The index of a version, or 0 for none.
 fn version(cursor: &mut Cursor, texts: &mut ClassTexts) -> Result<Option<SharedText>, Or<InfoFault>>
     ensures class { texts.new ≡ texts.old }
-    ensures version { Gives (λ version. version) (reading Short (layout.version texts.old.pool) cursor.old)
+    ensures version { Gives (λ version. version)
+        (reading Short (layout.version texts.old.pool) cursor.old)
         result cursor.new }
 {
     let at = cursor.place();
@@ -69,7 +71,8 @@ fn names(
     kind: Kind,
 ) -> Result<List<SharedText>, Or<InfoFault>>
     ensures class { texts.new ≡ texts.old }
-    ensures names { Gives (λ names. names) (reading Short (layout.names texts.old.pool kind) cursor.old)
+    ensures names { Gives (λ names. names)
+        (reading Short (layout.names texts.old.pool kind) cursor.old)
         result cursor.new }
 {
     let count = number(cursor)?;

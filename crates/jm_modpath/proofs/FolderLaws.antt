@@ -1,5 +1,5 @@
 -- Rising names: where those of a folder lie.
-use Rattle.std.proofs.Common.{◌≡◌, ℕ, zero, suc, ◌+◌, ◌<◌, ◌==◌, Bool, true, false, cond, IsTrue, IsFalse}
+use Rattle.std.proofs.Common.{◌≡◌, ℕ, zero, suc, ◌+◌, ◌<◌, ◌==◌, Bool, true, false, cond, IsTrue, IsFalse, rules}
 use Rattle.std.proofs.Common.{List, [], ◌∷◌, ◌++◌, take, drop, append-nil, length, get_or, All, AllPairs, ◌≢◌}
 use Rattle.std.proofs.Common.{◌∙◌, Option, Some, None, refl, sym, ap, arith}
 use Rattle.std.proofs.lemmas.Bool.{false≢true}
@@ -54,6 +54,10 @@ module _ {X Y : Type 0} (f : X → Option Y) where
   none_of P never (x ∷ xs) all =
       rw (never x (All-head P x xs all)) (none_of P never xs (All-tail P x xs all))
 
+either_none : (test : Bool) (o : Option (List ℕ)) → o ≡ None → cond test o None ≡ None
+either_none true o none = none
+either_none false o none = refl
+
 -- a text before a folder and its slash isn't within the folder
 pub not_before : (folder name : List ℕ) → IsTrue (is_before name (folder ++ 47 ∷ [])) → after_front (folder ++ 47 ∷ []) name ≡ None
 not_before [] [] before = refl
@@ -78,11 +82,7 @@ not_before (b ∷ folder) (c ∷ name) before = go (nat_cmp c b) refl before (λ
         → (IsTrue (is_before name (folder ++ 47 ∷ [])) → after_front (folder ++ 47 ∷ []) name ≡ None)
         → cond (b == c) (after_front (folder ++ 47 ∷ []) name) None ≡ None
     go Less is h rest = rw (other is) refl
-    go Equal is h rest = either (b == c) (rest h)
-      where
-        either : (t : Bool) → after_front (folder ++ 47 ∷ []) name ≡ None → cond t (after_front (folder ++ 47 ∷ []) name) None ≡ None
-        either true e = e
-        either false e = refl
+    go Equal is h rest = either_none (b == c) (after_front (folder ++ 47 ∷ []) name) (rest h)
     go Greater is h rest = absurd (false≢true h)
 
 -- nor is one that isn't before the folder and the byte behind a slash
@@ -105,11 +105,7 @@ not_behind (b ∷ folder) (c ∷ name) behind = go (nat_cmp c b) refl behind (λ
         → (IsFalse (is_before name (folder ++ 48 ∷ [])) → after_front (folder ++ 47 ∷ []) name ≡ None)
         → cond (b == c) (after_front (folder ++ 47 ∷ []) name) None ≡ None
     go Less is h rest = absurd (false≢true (sym h))
-    go Equal is h rest = either (b == c) (rest h)
-      where
-        either : (t : Bool) → after_front (folder ++ 47 ∷ []) name ≡ None → cond t (after_front (folder ++ 47 ∷ []) name) None ≡ None
-        either true e = e
-        either false e = refl
+    go Equal is h rest = either_none (b == c) (after_front (folder ++ 47 ∷ []) name) (rest h)
     go Greater is h rest = rw (other is) refl
 
 -- names whose front has none of a folder, and whose back has none
@@ -126,9 +122,7 @@ within_part folder names before part behind is front back =
 -- What holds of all on one side of a place
 
 pub all_before : {X : Type 0} (P : X → Type 0) (xs : List X) (i : ℕ) → AllWithin P xs 0 i → All P (take i xs)
-all_before P xs i within k d below =
-    let inside : k < i = omega (arith, length-take i xs) in
-    rw (get_or-take i xs k d inside) (within k d (omega arith) inside)
+all_before P xs i within k d below = search (rules, get_or-take, length-take)
 
 pub all_behind : {X : Type 0} (P : X → Type 0) (xs : List X) (i : ℕ) → AllWithin P xs i (length xs) → All P (drop i xs)
 all_behind P xs i within k d below =

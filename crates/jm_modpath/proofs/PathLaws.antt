@@ -1,5 +1,5 @@
 -- The modules of directories and of a module path, as the steps find them.
-use Rattle.std.proofs.Common.{◌≡◌, ℕ, ◌+◌, ◌<◌, ◌≤◌, Bool, true, false, cond, List, [], ◌∷◌, ◌++◌, append-nil}
+use Rattle.std.proofs.Common.{◌≡◌, ℕ, ◌+◌, ◌<◌, ◌≤◌, Bool, true, false, cond, List, [], ◌∷◌, ◌++◌, append-nil, rules}
 use Rattle.std.proofs.Common.{append_assoc, length, length-append, take, drop, get_or, Option, Some, None}
 use Rattle.std.proofs.Common.{Result, Ok, Err, refl, sym, ap, ◌∙◌, subst, arith, filter_map}
 use Rattle.std.proofs.lemmas.List.{at_drop_all, drop_more, take_at}
@@ -125,9 +125,7 @@ unhidden-append earlier (m ∷ xs) ys = go (is_named earlier (name_of m)) (unhid
 
 -- some modules, and then others
 pub with_both : (earlier xs ys : List VisibleModule) → with_unhidden (with_unhidden earlier xs) ys ≡ with_unhidden earlier (xs ++ ys)
-with_both earlier xs ys =
-    append_assoc earlier (unhidden earlier xs) (unhidden (with_unhidden earlier xs) ys)
-    ∙ ap (λ l. earlier ++ l) (sym (unhidden-append earlier xs ys))
+with_both earlier xs ys = search (rules, append_assoc, unhidden-append)
 
 -- The directories of a path
 
@@ -193,12 +191,7 @@ shows_of o found (Err stop.Memory) h = tt
 pub path_shown : (release : ℕ) (told : Option Files) (directories : List (List ℕ)) (r : Result (List VisibleModule) PathStop)
     → Shows told (λ files. Comes ⊥ (directories_due release files [] directories) r)
     → Shows told (λ files. ShowsModules release files directories r)
-path_shown release told directories r comes =
-    told_more told _ _
-    (λ files h. by_result release files directories r
-    (shows_of (path_refusal release files directories) (visible release files directories) r
-    (subst (λ due. Comes ⊥ due r) (directories_law release files [] directories) h)))
-    comes
+path_shown release told directories r comes = search (rules, told_more, directories_law, by_result, shows_of)
 
 -- Loops
 
@@ -207,22 +200,14 @@ pub directories_ended : (release : ℕ) (files : Files) (directories : List (Lis
     (e : PathStop) → i < length directories → directory ≡ get_or directories i directory
     → Comes ⊥ (shown_more release files found directory) (Err e)
     → Comes ⊥ (directories_due release files found (drop i directories)) (Err e)
-directories_ended release files directories i directory found e below is comes =
-    subst (λ left. Comes ⊥ (directories_due release files found left) (Err e)) (sym (drop_more directories i directory below
-    ∙ ap (λ f. f ∷ drop (i + 1) directories) (sym is)))
-    (comes_ended (shown_more release files found directory)
-    (λ ms. directories_due release files ms (drop (i + 1) directories)) e comes)
+directories_ended release files directories i directory found e below is comes = search (rules, drop_more, comes_ended)
 
 pub found_told : (release : ℕ) (told : Option Files) (directory : List ℕ) (names : List (List ℕ))
     (r : Result (List VisibleModule) PathStop)
     → Shows told (λ files. names ≡ names_below directory files)
     → Shows told (λ files. Comes ⊥ (folders_due release files directory [] (folders_among names)) r)
     → Shows told (λ files. Comes ⊥ (directory_due release files directory) r)
-found_told release told directory names r listed comes =
-    told_both told _ _ _
-    (λ files named h. subst (λ due. Comes ⊥ due r) (ap (λ ns. folders_due release files directory [] (folders_among ns)) named
-    ∙ directory_law release files directory) h)
-    listed comes
+found_told release told directory names r listed comes = search (rules, told_both, directory_law)
 
 pub with_none : (found : List VisibleModule) → with_unhidden found [] ≡ found
 with_none found = append-nil found

@@ -1,5 +1,5 @@
 -- The steps that look for modules: what each comes to, from what its calls answered.
-use Rattle.std.proofs.Common.{◌≡◌, ℕ, Bool, true, false, cond, ◌&&◌, not, List, [], ◌∷◌, ◌++◌}
+use Rattle.std.proofs.Common.{◌≡◌, ℕ, Bool, true, false, cond, ◌&&◌, not, List, [], ◌∷◌, ◌++◌, rules}
 use Rattle.std.proofs.Common.{append_assoc, IsUtf8, Contains, Option, Some, None}
 use Rattle.std.proofs.Common.{unwrap_or, option_and_then, Result, Ok, Err, refl, sym, ap, ◌∙◌, subst}
 use Rattle.std.proofs.Common.{filter_map, inl, inr}
@@ -16,7 +16,6 @@ use Rattle.jm_bytes.proofs.Cuts.{first_parts}
 use Rattle.jm_bytes.proofs.Members.{any_contains, contains_cases, contains_here, contains_later, from_filter_map}
 use Rattle.jm_modpath.specs.declared.directory.Described.{Described}
 use Rattle.jm_names.specs.Names.{is_empty, is_slash}
-use Rattle.jm_outside.specs.declared.shelf.ShelfError.TheVariants as outside
 use Rattle.jm_outside.specs.Files.{Files, after_front, file, names_below}
 use Rattle.jm_outside.specs.Outcome.{Shows}
 use Rattle.jm_outside.proofs.Laws.{names_below-exact}
@@ -83,14 +82,7 @@ pub read_told : (release : ℕ) (told : Option Files) (folder path bytes : List 
     → Comes ⊥ (refused_at path bytes (info_for release bytes)) r
     → Shows told (λ files. Comes (file files (info_path folder) ≡ None)
     (info_due release folder (bytes_at files (info_path folder))) r)
-read_told release told folder path bytes r is read comes =
-    told_more told _ _
-    (λ files found.
-    let said = bytes_at files (info_path folder) in
-    let there : bytes ≡ said = ap (λ o. unwrap_or o []) (found ∙ ap (file files) is) in
-    let due = ap (λ b. refused_at path b (info_for release b)) there ∙ ap (λ p. refused_at p said (info_for release said)) is in
-    comes_weaker (info_due release folder said) r (λ (h : ⊥). absurd h) (subst (λ d. Comes ⊥ d r) due comes))
-    read
+read_told release told folder path bytes r is read comes = search (rules, unwrap_or, comes_weaker, told_more)
 
 -- a told shelf has the file of a folder with one
 folder_is : (name folder : List ℕ) → folder_with_info name ≡ Some folder → name ≡ folder ++ 47 ∷ info_name
@@ -166,15 +158,7 @@ pub folder_shown : (release : ℕ) (told : Option Files) (directory folder path 
     (info_due release path (bytes_at files (info_path path))) (Ok d))
     → Comes ⊥ (shown_due directory earlier path d (names_within folder names)) r
     → Shows told (λ files. Comes ⊥ (folder_due release files directory earlier folder) r)
-folder_shown release told directory folder path names earlier d r is listed read shown =
-    told_both told _ _ _
-    (λ files named info.
-    let paths = ap (names_within folder) named ∙ sym (below_within files directory folder) in
-    comes_next (info_due release (inside directory folder) (bytes_at files (info_path (inside directory folder))))
-    (λ e. shown_due directory earlier (inside directory folder) e (names_below (inside directory folder) files)) d r
-    (rw is at info)
-    (rw (is, paths) at shown))
-    listed read
+folder_shown release told directory folder path names earlier d r is listed read shown = search (rules, comes_next, told_both, below_within)
 
 pub folder_ended : (release : ℕ) (told : Option Files) (directory folder path : List ℕ) (names : List (List ℕ))
     (earlier : List VisibleModule)
@@ -182,15 +166,7 @@ pub folder_ended : (release : ℕ) (told : Option Files) (directory folder path 
     → Shows told (λ files. names ≡ names_below directory files) → Shows told (λ files. Comes (file files (info_path path) ≡ None)
     (info_due release path (bytes_at files (info_path path))) (Err e))
     → Shows told (λ files. Comes ⊥ (folder_due release files directory earlier folder) (Err e))
-folder_ended release told directory folder path names earlier e is among listed read =
-    told_both told _ _ _
-    (λ files named info.
-    let none : file files (info_path path) ≡ None → ⊥ = λ h. info_there files directory folder (rw named at among) (rw is at h) in
-    comes_ended (info_due release (inside directory folder) (bytes_at files (info_path (inside directory folder))))
-    (λ d. shown_due directory earlier (inside directory folder) d (names_below (inside directory folder) files)) e
-    (subst (λ p. Comes ⊥ (info_due release p (bytes_at files (info_path p))) (Err e)) is (comes_weaker {A = Described}
-    (info_due release path (bytes_at files (info_path path))) (Err e) none info)))
-    listed read
+folder_ended release told directory folder path names earlier e is among listed read = search (rules, comes_weaker, comes_ended, told_both, info_there)
 
 pub read_none : (told : Option Files) (folder path : List ℕ) → path ≡ info_path folder
     → Shows told (λ files. None ≡ file files path) → Shows told (λ files. file files (info_path folder) ≡ None)

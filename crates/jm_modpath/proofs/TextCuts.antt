@@ -1,8 +1,8 @@
 -- What is cut out of a text at a slash is text, and what is put together with a slash.
 use Rattle.std.proofs.Common.{◌≡◌, ℕ, Bool, true, false, List, [], ◌∷◌, ◌++◌}
-use Rattle.std.proofs.Common.{drop, length, length-append, get_or, cond, All, Contains, IsUtf8, Option, Some}
+use Rattle.std.proofs.Common.{drop, length, length-append, cond, All, Contains, IsUtf8, Option, Some}
 use Rattle.std.proofs.Common.{None, Result, Ok, Err, IfOk, refl, subst, arith, rules, lit<}
-use Rattle.std.specs.List.{list_any, before_first, filter_map, position_or_len}
+use Rattle.std.specs.List.{list_any, before_first, filter_map}
 use Rattle.std.specs.Str.{IsCharBoundary}
 use Rattle.std.proofs.lemmas.Bool.{eqb-true}
 use Rattle.std.proofs.lemmas.List.{take_at, drop_at}
@@ -20,11 +20,7 @@ use Rattle.jm_modpath.specs.Finding.{folders_among, names_within}
 use Rattle.jm_modpath.specs.Modules.{folder_with_info, inside}
 
 pub before_is_text : (text : List ℕ) → IsUtf8 text → list_any is_slash text ≡ true → IsUtf8 (before_first is_slash text)
-before_is_text text is some =
-    let at = position_or_len is_slash text in
-    let below = position_below is_slash text some in
-    let byte = eqb-true (get_or text at 0) 47 (passes_at_first is_slash text 0 below) in
-    IsUtf8-take text at is (IsCharBoundary-before_ascii text at below (omega (arith, byte)))
+before_is_text text is some = search (rules, eqb-true, passes_at_first, IsCharBoundary-before_ascii, IsUtf8-take, position_below)
 
 -- the folder of a text is text
 pub folder_is_text : (name folder : List ℕ) → IsUtf8 name → folder_with_info name ≡ Some folder → IsUtf8 folder

@@ -92,14 +92,6 @@ IsSound-computed name e fault fails =
     let none = no_fault_at (name_checks name) (rank fault) (Some fault) e (check_found name fault fails) in
     cc
 
--- a name without a fault is computed to have none
-pub name_fault-sound : (name : List ℕ) → IsSound name → name_fault name ≡ None
-name_fault-sound name sound = go (name_fault name) refl
-  where
-    go : (found : Option NameFault) → name_fault name ≡ found → found ≡ None
-    go None e = refl
-    go (Some fault) e = absurd (sound fault (HasFault-computed name fault e).fails)
-
 -- the first fault is the one that is computed
 pub name_fault-first : (name : List ℕ) (fault : NameFault) → HasFault name fault → name_fault name ≡ Some fault
 name_fault-first name fault first = go (name_fault name) refl
@@ -121,7 +113,3 @@ HasFault-unique name a b h k =
     let first = name_fault-first name a h in
     let second = name_fault-first name b k in
     cc
-
--- a name with a first fault is not sound
-pub HasFault-IsSound : (name : List ℕ) (fault : NameFault) → HasFault name fault → ¬ IsSound name
-HasFault-IsSound name fault h sound = sound fault h.fails

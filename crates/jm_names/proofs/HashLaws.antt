@@ -5,7 +5,7 @@ use Rattle.std.proofs.lemmas.List.Elements.{All-head, All-tail}
 use Rattle.std.proofs.lemmas.Nat.{xor_block, xor_of_8}
 use Rattle.std.specs.Int.Bits.{xor_zero_r}
 use Rattle.std.specs.Prelude.{bit_xor, All}
-use Rattle.jm_names.specs.Hash.{state_after, hash}
+use Rattle.jm_names.specs.Hash.{state_after}
 
 -- the state after two texts is the state after the second from the state after the first
 pub state_after-append : (s : ℕ) (a b : List ℕ) → state_after s (a ++ b) ≡ state_after (state_after s a) b
@@ -14,10 +14,6 @@ state_after-append s (x ∷ a) b = state_after-append (bit_xor (s * 0x01000193 %
 
 -- for the tactics, which take no name with a dash
 pub ruleset appended = (state_after-append)
-
--- a hash has 31 bits
-pub hash-lt : (seed : ℕ) (name : List ℕ) → hash seed name < 2 ^ 31
-hash-lt seed name = omega arith
 
 -- a byte meets the low byte of a state alone
 step-low : (s b : ℕ) → b < 256 → bit_xor (s * 0x01000193 % 2 ^ 32) b ≡ s * 0x01000193 / 256 % 2 ^ 24 * 256

@@ -17,5 +17,5 @@ pub use hashing::{DEFAULT_SEED, HASH_FACTOR, hash, hash_of_state, hash_pieces, s
 pub use named::{HasName, sorted_by_name};
 pub use nodes::is_node;
 pub use packages::dotted;
-pub use pieces::{Pieces, cut_at_first, cut_at_last, split};
+pub use pieces::{Pieces, cut_at_first, cut_at_last, shared_len, split};
 pub use printed::{extend_shown, extend_shown_text};

@@ -1,4 +1,4 @@
-ghost use Rattle.std.specs.Prelude.{◌≡◌, ◌==◌, ◌<◌, true, false, length, IfSome, IfNone};
+ghost use Rattle.std.specs.Prelude.{◌≡◌, ◌==◌, ◌<◌, ◌≤◌, true, false, length, take, IfSome, IfNone};
 ghost use Rattle.std.specs.List.{list_any, before_first, after_first, before_last, after_last};
 ghost use Rattle.jm_names.specs.Names.{split, join, base_only, cut_rest, cut_tail, is_empty};
 ghost use Rattle.jm_names.specs.Names.{is_slash, is_tree};
@@ -141,4 +141,17 @@ pub fn cut_at_last(byte: u8, text: &[u8]) -> Option<(&[u8], &[u8])>
     let (before, from_there) = text.split_at(at);
     let (_, after) = from_there.split_at(1);
     Some((before, after))
+}
+
+/// The length of the prefix that two texts share.
+pub fn shared_len(text: &[u8], other: &[u8]) -> usize
+    ensures text { result ≤ length text.now }
+    ensures other { result ≤ length other.now }
+    ensures same { take result text.now ≡ take result other.now }
+{
+    let mut at = 0;
+    while at < text.len() && at < other.len() && text[at] == other[at] {
+        at += 1;
+    }
+    at
 }

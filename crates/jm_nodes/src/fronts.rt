@@ -16,20 +16,8 @@ ghost use Rattle.jm_nodes.specs.Order.{SameElements};
 
 use crate::rising::rising;
 use jm_bytes::{List, NoMemory};
+use jm_names::shared_len;
 use std::alloc::Global;
-
-/// A length at which two names have the same front.
-fn common_len(name: &[u8], other: &[u8]) -> usize
-    ensures name { result ≤ length name.now }
-    ensures other { result ≤ length other.now }
-    ensures same { take result name.now ≡ take result other.now }
-{
-    let mut at = 0;
-    while at < name.len() && at < other.len() && name[at] == other[at] {
-        at += 1;
-    }
-    at
-}
 
 /// A length below which all fronts of the name at a place are fronts of the one before.
 fn known_len(names: &[&[u8]], place: usize) -> usize
@@ -41,7 +29,7 @@ fn known_len(names: &[&[u8]], place: usize) -> usize
     if place == 0 {
         return 0;
     }
-    common_len(names[place], names[place - 1])
+    shared_len(names[place], names[place - 1])
 }
 
 /// Puts the front of this length at the end, if it is a front.

@@ -7,15 +7,11 @@ use Rattle.std.proofs.lemmas.List.Elements.{All-head, All-tail}
 use Rattle.std.proofs.lemmas.Slice.Eq.{bytes_eq-Decides}
 use Rattle.jm_bytes.proofs.Choice.{same_some}
 use Rattle.jm_outside.specs.Files.{Files, file, put}
-use Rattle.jm_outside.specs.Holds.{Holds, HoldsPart}
+use Rattle.jm_outside.specs.Holds.{HoldsPart}
 use Rattle.jm_outside.specs.Made.{BrokenOff, Elsewhere, MadeAll, MadePart, Writes, written}
-use Rattle.jm_outside.specs.Outcome.{Shows, Told}
 use Rattle.jm_outside.proofs.Laws.{file-put}
 
 -- One file
-
-pub made_alone : (old new : Option Files) (path bytes : List ℕ) → Holds old path bytes new → MadeAll ((path, bytes) ∷ []) old new
-made_alone old new path bytes holds = holds
 
 pub part_alone : (old new : Option Files) (path bytes : List ℕ) → HoldsPart old path bytes new → MadePart ((path, bytes) ∷ []) old new
 part_alone None new path bytes part = tt
@@ -100,19 +96,3 @@ file-written files [] path elsewhere = refl
 file-written files (write ∷ writes) path elsewhere =
     file-written (put files write.0 write.1) writes path (All-tail (λ (w : List ℕ × List ℕ). w.0 ≢ path) write writes elsewhere)
     ∙ file_put-elsewhere files write.0 write.1 path (All-head (λ (w : List ℕ × List ℕ). w.0 ≢ path) write writes elsewhere)
-
--- the same where the files are told
-pub file-made : (writes : Writes) (old new : Option Files) (path : List ℕ) → Elsewhere writes path → MadeAll writes old new
-    → Told old new (λ (before after : Files). file after path ≡ file before path)
-file-made writes None new path elsewhere made = tt
-file-made writes (Some old) None path elsewhere made = cc
-file-made writes (Some old) (Some new) path elsewhere made =
-    ap (λ (files : Files). file files path) (same_some new (written old writes) made) ∙ file-written old writes path elsewhere
-
--- what is shown of a file then was so before
-pub shown_before : (P : Option (List ℕ) → Type 0) (writes : Writes) (old new : Option Files) (path : List ℕ) → Elsewhere writes path
-    → MadeAll writes old new → Shows new (λ (files : Files). P (file files path)) → Shows old (λ (files : Files). P (file files path))
-shown_before P writes None new path elsewhere made shown = tt
-shown_before P writes (Some old) None path elsewhere made shown = cc
-shown_before P writes (Some old) (Some new) path elsewhere made shown =
-    subst P (file-made writes (Some old) (Some new) path elsewhere made) shown

@@ -104,10 +104,6 @@ pub leads-one : (signs : List Sign) (name : List ℕ) (s : Sign) (p : List Sign)
     → BeginsFixed signs → StandsFor s (b ∷ []) → Leads signs name p n
 leads-one signs name s p b n e1 e2 f h = rw (e1, e2) (leads-fixed s p b n (rw e1 at f) h)
 
-pub none-one : (signs : List Sign) (name : List ℕ) (s : Sign) (p : List Sign) (b : ℕ) (n : List ℕ) → signs ≡ s ∷ p → name ≡ b ∷ n
-    → BeginsFixed signs → ¬ StandsFor s (b ∷ []) → ¬ Match signs name
-none-one signs name s p b n e1 e2 f h m = h (fixed-on s p b n (rw e1 at f) (rw (e1, e2) at m)).0
-
 -- a `*` at a byte that it may take, behind which nothing matches here, and at one that it may not
 pub leads-run_on : (p : List Sign) (n rest : List ℕ) (b : ℕ) (after : List ℕ) → Leads (Run ∷ p) n (Run ∷ p) rest → rest ≡ b ∷ after
     → ¬ Match p rest → StandsFor Run (b ∷ []) → Leads (Run ∷ p) n (Run ∷ p) after

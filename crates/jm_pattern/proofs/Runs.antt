@@ -53,17 +53,6 @@ run-front (b ∷ run) rest a =
 pub any-run : (p : List Sign) (n : List ℕ) → All InRun n → Match (AnyRun ∷ p) n → Match (Run ∷ p) n
 any-run p n a m = (m.0, m.1, m.2, run-front m.0 m.1 (rw m.2 at a), m.4)
 
--- of no byte a run is empty
-any-none : (p : List Sign) (run rest : List ℕ) → [] ≡ run ++ rest → Match p rest → Match p []
-any-none p [] rest e m = rw e m
-any-none p (b ∷ run) rest e m = absurd cc
-
-pub any-of-nothing : (p : List Sign) → Match (AnyRun ∷ p) [] → Match p []
-any-of-nothing p m = any-none p m.0 m.1 m.2 m.4
-
-pub run-of-nothing : (p : List Sign) → Match (Run ∷ p) [] → Match p []
-run-of-nothing p m = any-none p m.0 m.1 m.2 m.4
-
 -- a `**` takes what the sign behind it stands for
 pub any-absorbs : (s : Sign) (p : List Sign) (n : List ℕ) → Match (AnyRun ∷ s ∷ p) n → Match (AnyRun ∷ p) n
 any-absorbs s p n m =
@@ -139,9 +128,3 @@ fixed-on s p b n f m =
     let first : b ≡ one.0 = cc in
     let rest : n ≡ m.1 = cc in
     (rw first one.2, rw rest m.4)
-
-pub fixed-none : (s : Sign) (p : List Sign) → IsFixed s → ¬ Match (s ∷ p) []
-fixed-none s p f m =
-    let one = one_of s m.0 f m.3 in
-    let whole : [] ≡ one.0 ∷ m.1 = m.2 ∙ ap (λ x. x ++ m.1) one.1 in
-    cc

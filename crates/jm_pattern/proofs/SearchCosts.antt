@@ -3,7 +3,7 @@ use Rattle.std.proofs.Common.{◌≡◌, ◌≢◌, ◌≤◌, ◌+◌, ◌-◌,
 use Rattle.std.proofs.Common.{List, Option, None, Some, IfNone, length, refl, ap, arith}
 use Rattle.std.proofs.lemmas.Bool.{ne_eqb, eqb-false}
 use Rattle.jm_pattern.specs.Matching.{StandsFor}
-use Rattle.jm_pattern.specs.MatchingSteps.{NoLonger, TakesByte, IsFixed, BeginsFixed, AtRun, AtAny, behind_line}
+use Rattle.jm_pattern.specs.MatchingSteps.{NoLonger, TakesByte, IsFixed, BeginsFixed, AtRun, behind_line}
 use Rattle.jm_pattern.specs.MatchingCosts.{line_places, block_length, behind_segment, segment_cost}
 use Rattle.jm_pattern.proofs.LineSums.{over_lines, lines_on, places_some, places_all, places_most}
 use Rattle.jm_pattern.proofs.LineSums.{behind_line-shorter, lines_add, later_none, lines_later}
@@ -113,11 +113,6 @@ cost-at_run k j (AnyRun ∷ p) n e = refl
 cost-at_run k j (Run ∷ p) n e = refl
 cost-at_run k j (One ∷ p) n e = absurd (e tt)
 cost-at_run k j (Byte b ∷ p) n e = absurd (e tt)
-
--- what is left behind a segment is what follows it
-pub segment-end : (p : List Sign) (n : List ℕ) → AtAny p n → behind_segment p ≡ p
-segment-end [] n e = refl
-segment-end (s ∷ p) n e = rw e refl
 
 -- no name costs less than an empty one
 cost-least : (k j : ℕ) (p : List Sign) (n : List ℕ) → k ≤ j → segment_cost k p [] ≤ segment_cost j p n

@@ -1,5 +1,5 @@
 -- Classes made anew, put at their places one after another, are the pairs with these texts.
-use Rattle.std.proofs.Common.{◌≡◌, ℕ, zero, suc, ◌+◌, ◌<◌, inl, inr, List, [], ◌∷◌, ◌++◌, Bool, true, false}
+use Rattle.std.proofs.Common.{◌≡◌, ℕ, zero, suc, ◌+◌, ◌<◌, inl, inr, List, [], ◌∷◌, ◌++◌, Bool, true, false, rules}
 use Rattle.std.proofs.Common.{cond, Result, Ok, Err, Some, All, length, drop, ◌≤◌, get_or, slice_get}
 use Rattle.std.proofs.Common.{refl, sym, ap, subst, ◌∙◌, arith, append_assoc, append-nil}
 use Rattle.std.proofs.lemmas.Bool.{false≢true}
@@ -9,7 +9,7 @@ use Rattle.std.proofs.lemmas.List.Elements.{All-nil, All-cons, All-head, All-tai
 use Rattle.std.specs.List.{AllZip}
 use Rattle.jm_bytes.proofs.Choice.{same_ok}
 use Rattle.jm_class.specs.Classes.{ClassData}
-use Rattle.jm_class.specs.ComputedClass.{fault_of}
+use Rattle.jm_class.specs.Layouts.{fault_of}
 use Rattle.jm_class.specs.Releases.{class_for, fault_for}
 use Rattle.jm_class.specs.declared.class.ClassFault.{ClassFault}
 use Rattle.jm_class.proofs.ReleaseLaws.{reads-class_for}
@@ -60,9 +60,7 @@ places_within takes at (pair ∷ pairs) = go (takes pair.0) (All-weaker (λ plac
 
 pub classes_within : (takes : List ℕ → Bool) (pairs : List (List ℕ × List ℕ)) → All (λ place. place < length pairs)
     (class_places takes 0 pairs)
-classes_within takes pairs =
-    let none : 0 + length pairs ≡ length pairs = omega arith in
-    subst (λ n. All (λ place. place < n) (class_places takes 0 pairs)) none (places_within takes 0 pairs)
+classes_within takes pairs = omega (arith, places_within)
 
 -- the classes behind a place, with one place more at the front
 module _ (takes : List ℕ → Bool) (pairs : List (List ℕ × List ℕ)) (place : ℕ) (pair : List ℕ × List ℕ)
@@ -73,17 +71,11 @@ module _ (takes : List ℕ → Bool) (pairs : List (List ℕ × List ℕ)) (plac
 
   pub class_next : (found all : List ℕ) → takes pair.0 ≡ true → found ++ class_places takes place (drop place pairs) ≡ all
       → (found ++ place ∷ []) ++ class_places takes (place + 1) (drop (place + 1) pairs) ≡ all
-  class_next found all named so_far =
-      let here = one_more ∙ ap (λ b. cond b (place ∷ class_places takes (place + 1) (drop (place + 1) pairs))
-      (class_places takes (place + 1) (drop (place + 1) pairs))) named in
-      append_assoc found (place ∷ []) (class_places takes (place + 1) (drop (place + 1) pairs)) ∙ ap (λ l. found ++ l) (sym here) ∙ so_far
+  class_next found all named so_far = search (rules, append_assoc, one_more)
 
   pub other_next : (found all : List ℕ) → takes pair.0 ≡ false → found ++ class_places takes place (drop place pairs) ≡ all
       → found ++ class_places takes (place + 1) (drop (place + 1) pairs) ≡ all
-  other_next found all named so_far =
-      let here = one_more ∙ ap (λ b. cond b (place ∷ class_places takes (place + 1) (drop (place + 1) pairs))
-      (class_places takes (place + 1) (drop (place + 1) pairs))) named in
-      ap (λ l. found ++ l) (sym here) ∙ so_far
+  other_next found all named so_far = search (rules, one_more)
 
 -- no place is behind the last
 pub classes_all : (takes : List ℕ → Bool) (pairs : List (List ℕ × List ℕ)) (place : ℕ) (found all : List ℕ) → length pairs ≤ place
@@ -159,13 +151,7 @@ module _ (release : ℕ) (takes : List ℕ → Bool) (text : List ℕ → ClassD
       ≡ Ok first → Comes (put_remade outs ((done ++ first ∷ []) ++ rest)) (followed (remade_pairs release takes text rest)
       (λ xs. Ok ((done ++ first ∷ []) ++ xs))) → Comes (put_remade outs (done ++ first ∷ rest))
       (followed (remade_pairs release takes text (pair ∷ rest)) (λ ys. Ok (done ++ ys)))
-  onward done rest pair first outs is so_far =
-      let place : (done ++ first ∷ []) ++ rest ≡ done ++ first ∷ rest = append_assoc done (first ∷ []) rest in
-      let whole : followed (remade_pairs release takes text (pair ∷ rest)) (λ ys. Ok (done ++ ys))
-      ≡ followed (followed (remade_pairs release takes text rest) (λ xs. Ok (first ∷ xs))) (λ ys. Ok (done ++ ys)) =
-      ap (λ o. followed (followed o (λ one. followed (remade_pairs release takes text rest) (λ xs. Ok (one ∷ xs))))
-      (λ ys. Ok (done ++ ys))) is in
-      rw (whole, sym (joined done first (remade_pairs release takes text rest)), sym place) so_far
+  onward done rest pair first outs is so_far = search (rules, append_assoc, joined)
 
   put_is : (all front done rest : List (List ℕ × List ℕ)) (outs : List Remade) → all ≡ front ++ rest → length done ≡ length front
       → AllZip (IsRemade release text all) (class_places takes (length front) rest) outs

@@ -1,5 +1,5 @@
 -- What plug-ins make by the rules is what is computed, and nothing else.
-use Rattle.std.proofs.Common.{◌≡◌, ℕ, ◌+◌, ◌<◌, ◌≤◌, Bool, true, false, cond, List, [], ◌∷◌}
+use Rattle.std.proofs.Common.{◌≡◌, ℕ, ◌+◌, ◌<◌, ◌≤◌, Bool, true, false, cond, List, [], ◌∷◌, rules}
 use Rattle.std.proofs.Common.{◌++◌, All, drop, length, get_or, Some, Result, Ok, Err, refl, sym, ap, subst}
 use Rattle.std.proofs.Common.{◌∙◌}
 use Rattle.std.proofs.lemmas.Bool.{false≢true}
@@ -10,7 +10,7 @@ use Rattle.jm_bytes.specs.declared.faults.Or.{Or}
 use Rattle.jm_bytes.specs.declared.faults.Or.TheVariants.{Fault, Memory}
 use Rattle.jm_bytes.specs.Results.{followed, IfAnswered}
 use Rattle.jm_class.specs.Classes.{ClassData, class_text, IsClass}
-use Rattle.jm_class.specs.ComputedClass.{fault_of}
+use Rattle.jm_class.specs.Layouts.{fault_of}
 use Rattle.jm_class.specs.Releases.{ReadsFor, class_for, fault_for}
 use Rattle.jm_class.specs.declared.class.ClassFault.{ClassFault}
 use Rattle.jm_class.proofs.ReleaseLaws.{reads-class_for}
@@ -147,16 +147,12 @@ TakenBy release plugin.DropSystemModules pairs = Unit {0}
 
 pub makes_computed : (release : ℕ) (one : Plugin) (pairs : Pairs) → TakenBy release one pairs
     → Makes release one pairs (act release one pairs)
-makes_computed release (plugin.Exclude patterns) pairs read = refl
-makes_computed release (plugin.Order patterns) pairs read = refl
-makes_computed release plugin.Strip pairs read =
-    made_anew release is_class (λ name c text. text ≡ class_text (strip c)) (λ name. stripped_text) (λ name c fits. refl) pairs read
-makes_computed release plugin.Compact pairs read =
-    made_anew release is_class (λ name. IsCompact) (λ name. compact_text) (λ name. rule) pairs read
-makes_computed release plugin.Packages pairs read =
-    made_anew release is_descriptor (λ name c text. text ≡ listing_text (names_of pairs) name c) (listing_text (names_of pairs))
-    (λ name c fits. refl) pairs read
-makes_computed release plugin.DropSystemModules pairs read = refl
+makes_computed release (plugin.Exclude patterns) pairs read = search (rules)
+makes_computed release (plugin.Order patterns) pairs read = search (rules)
+makes_computed release plugin.Strip pairs read = search (rules, made_anew)
+makes_computed release plugin.Compact pairs read = search (rules, rule, made_anew)
+makes_computed release plugin.Packages pairs read = search (rules, made_anew)
+makes_computed release plugin.DropSystemModules pairs read = search (rules)
 
 pub makes_only : (release : ℕ) (one : Plugin) (pairs : Pairs) (result : Result Pairs BadClass) → Makes release one pairs result
     → result ≡ act release one pairs
@@ -204,9 +200,7 @@ module _ (release : ℕ) (plugins : List Plugin) (first : Pairs) (number : ℕ) 
   next_applies : (one : Plugin) (made result : Result Pairs BadClass) → number < length plugins → one ≡ get_or plugins number one
       → Makes release one pairs made → GoesOn (Applies release (drop (number + 1) plugins)) made result
       → Applies release plugins first result
-  next_applies one made result below is makes on =
-      let all = drop_more plugins number one below ∙ ap (λ (p : Plugin). p ∷ drop (number + 1) plugins) (sym is) in
-      so_far result (subst (λ ps. Applies release ps pairs result) (sym all) (made, makes, on))
+  next_applies one made result below is makes on = search (rules, drop_more)
 
   pub one_acted : (one : Plugin) (made : Pairs) → number < length plugins → one ≡ get_or plugins number one
       → Makes release one pairs (Ok made) → (result : Result Pairs BadClass) → Applies release (drop (number + 1) plugins) made result

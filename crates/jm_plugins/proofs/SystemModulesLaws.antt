@@ -1,5 +1,5 @@
 -- The plain map is put for the map, from the first pair to the last.
-use Rattle.std.proofs.Common.{◌≡◌, ◌<◌, ◌+◌, ℕ, true, false, cond, List, [], ◌∷◌, ◌++◌, drop, length, map, take}
+use Rattle.std.proofs.Common.{◌≡◌, ◌<◌, ◌+◌, ℕ, true, false, List, [], ◌∷◌, ◌++◌, drop, length, map, take, rules}
 use Rattle.std.proofs.Common.{Some, get_or, slice_get, sym, ap, ◌∙◌, arith, append_assoc, append-nil, ◌≤◌}
 use Rattle.std.proofs.lemmas.List.{drop_all, drop_more, length-map, length-take-le, map-append, take_all, take_more}
 use Rattle.std.specs.Str.{bytes_eq}
@@ -46,19 +46,12 @@ module _ (pairs pool : Pairs) (place : ℕ) (pair : List ℕ × List ℕ) (below
   -- the map is there
   pub map_put : bytes_eq pair.0 map_name ≡ true → (new : Pairs) → new ≡ with_bytes_at pool place plain_map_text
       → new ≡ partly (place + 1) pairs
-  map_put is new puts =
-      puts ∙ ap (λ l. with_bytes_at l place plain_map_text) (parted ∙ ap (λ p. front ++ p ∷ behind) same)
-      ∙ ap (λ n. with_bytes_at (front ++ pair ∷ behind) n plain_map_text) (sym long) ∙ replaced front behind pair plain_map_text
-      ∙ ap (λ b. front ++ cond b (pair.0, plain_map_text) pair ∷ behind) (sym is) ∙ sym next
+  map_put is new puts = search (rules, replaced, long, parted, same, next)
 
   -- another one is there
   pub other_stays : bytes_eq pair.0 map_name ≡ false → pool ≡ partly (place + 1) pairs
-  other_stays is =
-      parted ∙ ap (λ p. front ++ p ∷ behind) same ∙ ap (λ b. front ++ cond b (pair.0, plain_map_text) pair ∷ behind) (sym is)
-      ∙ sym next
+  other_stays is = search (rules, parted, same, next)
 
 -- all pairs are done
 pub all_put : (pairs pool : Pairs) (place : ℕ) → length pairs ≤ place → pool ≡ partly place pairs → pool ≡ map with_plain_map pairs
-all_put pairs pool place past so_far =
-    so_far ∙ ap (λ l. map with_plain_map l ++ drop place pairs) (take_all place pairs past)
-    ∙ ap (λ l. map with_plain_map pairs ++ l) (drop_all place pairs past) ∙ append-nil (map with_plain_map pairs)
+all_put pairs pool place past so_far = search (rules, append-nil, drop_all, take_all)

@@ -1,7 +1,7 @@
 -- The pairs at the places of sorted turns are the pairs pattern by pattern.
-use Rattle.std.proofs.Common.{◌≡◌, ◌==◌, ◌&&◌, not, ℕ, ◌+◌, ◌<◌, ◌≤◌, List, [], ◌∷◌, ◌++◌, take, get_or, Bool}
+use Rattle.std.proofs.Common.{◌≡◌, ◌==◌, ◌&&◌, not, ℕ, ◌+◌, ◌<◌, ◌≤◌, List, [], ◌∷◌, ◌++◌, take, get_or, Bool, rules}
 use Rattle.std.proofs.Common.{true, false, cond, Option, Some, None, All, length, map}
-use Rattle.std.proofs.Common.{slice_get, refl, sym, ap, subst, ◌∙◌, arith, IsPermutation}
+use Rattle.std.proofs.Common.{slice_get, refl, sym, ap, ◌∙◌, arith}
 use Rattle.std.specs.List.Sorted.{IsStableByKey}
 use Rattle.std.specs.Ordering.{nat_cmp, is_lt}
 use Rattle.std.proofs.lemmas.List.{map-append, take_more}
@@ -48,12 +48,10 @@ module _ (patterns : List (List Sign)) (pairs : List (List ℕ × List ℕ)) whe
       ap (λ o. cons_option o (filter_map (λ t. slice_get pairs t.place) turns)) zipped.0.0 ∙ ap (λ l. pair ∷ l) (told rest turns zipped.1)
 
   ranked : (rest : List (List ℕ × List ℕ)) (turns : List Turn) → AllZip (IsTurn patterns pairs) rest turns → All Ranks turns
-  ranked [] [] zipped = All-nil Ranks
-  ranked [] (turn ∷ turns) zipped = absurd zipped
-  ranked (pair ∷ rest) [] zipped = absurd zipped
-  ranked (pair ∷ rest) (turn ∷ turns) zipped =
-      All-cons Ranks turn turns (λ other there. zipped.0.1 ∙ ap (λ p. rank patterns p.0) (same_some pair other (sym zipped.0.0
-      ∙ there))) (ranked rest turns zipped.1)
+  ranked [] [] zipped = search (rules, All-nil)
+  ranked [] (turn ∷ turns) zipped = search (rules)
+  ranked (pair ∷ rest) [] zipped = search (rules)
+  ranked (pair ∷ rest) (turn ∷ turns) zipped = search (rules, All-cons, same_some, (ranked rest turns zipped.1))
 
   -- the pairs of a rank are those at the turns of the rank
   of_rank : (i : ℕ) (turns : List Turn) → All Ranks turns → filter (λ pair. rank patterns pair.0 == i)
@@ -107,9 +105,7 @@ module _ (patterns : List (List Sign)) (pairs : List (List ℕ × List ℕ)) whe
   -- the places of sorted turns are all places in another order
   pub all_in_order : (turns sorted : List Turn) → AreTurns patterns pairs turns → IsByRank turns sorted
       → IsOrderOf (length pairs) (map (λ turn. turn.place) sorted)
-  all_in_order turns sorted are by =
-      subst (λ places. IsPermutation places (map (λ turn. turn.place) sorted)) are.places (IsPermutation-map (λ turn. turn.place)
-      turns sorted by.same)
+  all_in_order turns sorted are by = search (rules, IsPermutation-map)
 
 -- Sorted by rank
 

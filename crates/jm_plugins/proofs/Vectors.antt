@@ -1,7 +1,7 @@
 -- Plug-ins, evaluated on small pools.
 use Rattle.std.proofs.Common.{◌≡◌, ℕ, List, [], ◌∷◌, ◌++◌, length, Ok, Err, refl}
 use Rattle.std.specs.Prelude.{codes}
-use Rattle.jm_class.specs.ComputedClass.{class_of}
+use Rattle.jm_class.specs.ClassLayout.{class_of}
 use Rattle.jm_class.specs.declared.class.ClassFault.TheVariants.{Short}
 use Rattle.jm_pattern.specs.declared.signs.Sign.{Sign}
 use Rattle.jm_pattern.specs.declared.signs.Sign.TheVariants.{AnyRun, Byte}

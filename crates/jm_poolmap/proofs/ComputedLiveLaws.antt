@@ -6,7 +6,7 @@ use Rattle.std.proofs.lemmas.Bool.{and_parts, eqb-false, ltb-true, ne_eqb}
 use Rattle.std.proofs.lemmas.List.{length-replicate}
 use Rattle.std.proofs.lemmas.Option.{slice_get_within}
 use Rattle.std.specs.List.{list_all}
-use Rattle.std.specs.Prelude.{◌&&◌, ◌||◌, nat_eq, option_and_then, if◌then◌else◌}
+use Rattle.std.specs.Prelude.{◌&&◌, nat_eq, option_and_then, if◌then◌else◌}
 use Rattle.jm_bytes.proofs.Choice.{same_some}
 use Rattle.jm_bytes.proofs.Members.{contains_none, contains_cases}
 use Rattle.jm_class.specs.Classes.{SlotData, Constant, Hole, ClassData, IsPoolFrom, is_wide, slot_at, IsClass}
@@ -20,6 +20,7 @@ use Rattle.jm_poolmap.specs.Sites.{rank, named_by, rank_of, rank_at, is_some_bel
 use Rattle.jm_poolmap.specs.Sites.{names_constant, judged, site_of, found_in, sites_of}
 use Rattle.jm_poolmap.proofs.ComputedSitesLaws.{found_is}
 use Rattle.jm_poolmap.proofs.MarkLaws.{IsUp, HasFlag, length-marks, marks_here, marks_from, length-round}
+use Rattle.jm_poolmap.proofs.NamePlaces.{rank_within}
 use Rattle.jm_poolmap.proofs.MarkLaws.{round_keeps, round_follows, round_sound}
 
 -- Lists of constants
@@ -49,17 +50,6 @@ slot_there [] place slot is = cc
 slot_there (first ∷ pool) zero slot is = let same : first ≡ slot = cc in (0, omega arith, same)
 slot_there (first ∷ pool) (suc place) slot is =
     let rest = slot_there pool place slot is in (suc rest.0, (let below = rest.1 in omega (arith, below)), rest.2)
-
--- a rank is at most 3
-rank_within : (tag : ℕ) → rank tag ≤ 3
-rank_within tag = go (nat_eq tag 7 || nat_eq tag 8 || nat_eq tag 12 || nat_eq tag 16 || nat_eq tag 19 || nat_eq tag 20)
-    (nat_eq tag 9 || nat_eq tag 10 || nat_eq tag 11 || nat_eq tag 17 || nat_eq tag 18) (nat_eq tag 15)
-  where
-    go : (a b c : Bool) → cond a 1 (cond b 2 (cond c 3 0)) ≤ 3
-    go true b c = omega arith
-    go false true c = omega arith
-    go false false true = omega arith
-    go false false false = omega arith
 
 pub below_found : (limit : ℕ) (found : Option ℕ) → is_some_below limit found ≡ true → (r : ℕ) × (found ≡ Some r) × (r < limit)
 below_found limit None e = cc

@@ -12,6 +12,7 @@ use Rattle.jm_class.specs.Classes.{MemberData, ClassData, u2, u4, joined, counte
 use Rattle.jm_class.specs.Classes.{opaque_text, code_text, held_text, attribute_text, member_text, class_text}
 use Rattle.jm_class.specs.Classes.{pool_text, rows_text, magic, utf8_at, is_code_name, IsOpaque, IsCode}
 use Rattle.jm_class.specs.Classes.{IsBody, IsAttribute, IsMember, IsClass}
+use Rattle.jm_class.specs.Layouts.{U2}
 use Rattle.jm_class.specs.Readings.{Left, continued, number}
 use Rattle.jm_poolmap.specs.declared.forms.Place as place
 use Rattle.jm_poolmap.specs.declared.forms.Place.TheVariants.{Class, Field, Method, Code}
@@ -24,11 +25,11 @@ use Rattle.jm_poolmap.specs.Forms.{Form, unfit, nowhere, skip, site, optional_si
 use Rattle.jm_poolmap.specs.Instructions.{instructions}
 use Rattle.jm_poolmap.specs.ComputedSites.{Walked, Step, step_on, steps, each, passes, notes, over}
 use Rattle.jm_poolmap.specs.ComputedSites.{opaque_step, plain_step, handlers_form, code_step, held_step}
-use Rattle.jm_poolmap.specs.ComputedSites.{attribute_step, member_step, slot_step, class_step, walk_of}
+use Rattle.jm_poolmap.specs.ComputedSites.{attribute_step, member_step, class_step, walk_of}
 use Rattle.jm_poolmap.specs.ComputedSites.{found_by}
 use Rattle.jm_poolmap.specs.Sites as sites
 use Rattle.jm_poolmap.specs.Sites.{member, met, found_in}
-use Rattle.jm_poolmap.proofs.Following.{Follows, carried, later, number16_front, follows_step, follows_skip}
+use Rattle.jm_poolmap.proofs.Following.{Follows, carried, later, number_front, follows_step, follows_skip}
 use Rattle.jm_poolmap.proofs.Following.{follows_site, follows_nil, follows_cons, follows_counted}
 use Rattle.jm_poolmap.proofs.Following.{follows_over, follows_sized}
 use Rattle.jm_poolmap.proofs.Handlers.{follows_handlers}
@@ -101,7 +102,7 @@ follows_named code place pool name form text step below same law = record {
       let left : Left = record { place = walk.place; bytes = (u2 name ++ (text ++ [])) ++ rest } in
       let regrouped = append_assoc (u2 name) (text ++ []) rest in
       let peeked = ap (λ bytes. number unfit w16 (record { place = walk.place; bytes = bytes })) regrouped
-      ∙ number16_front walk.place name ((text ++ []) ++ rest) below in
+      ∙ number_front U2 walk.place name ((text ++ []) ++ rest) below in
       ap (λ o. continued o (λ name next. in_order (site ∷ sized w32 (form_if (body code) (content_at place pool name)) ∷ [])
       walk.found left)) peeked
       ∙ whole.reads walk rest;
@@ -216,16 +217,6 @@ follows_member place pool m fits =
 
 -- The class
 
--- the numbers of the pool, one after another
-pub slots_pass : (pool : List SlotData) (walk : Walk) → each slot_step pool walk
-    ≡ Ok (record walk { place = walk.place + length (flat_map slot_text pool) })
-slots_pass [] walk = let place : walk.place ≡ walk.place + 0 = omega arith in ap (λ m. Ok (record walk { place = m })) place
-slots_pass (slot ∷ pool) walk =
-    let size = length-append (slot_text slot) (flat_map slot_text pool) in
-    let place : (walk.place + length (slot_text slot)) + length (flat_map slot_text pool)
-    ≡ walk.place + length (slot_text slot ++ flat_map slot_text pool) = omega (arith, size) in
-    slots_pass pool (record walk { place = walk.place + length (slot_text slot) }) ∙ ap (λ m. Ok (record walk { place = m })) place
-
 -- steps in two runs
 steps_joined : (first second : List Step) (walk : Walk) → steps (steps first ∷ steps second ∷ []) walk ≡ steps (first ++ second) walk
 steps_joined [] second walk = last (steps second walk)
@@ -250,15 +241,13 @@ module _ (c : ClassData) (fits : IsClass c) where
 
   pub class_begins : (walk : Walk) → steps (passes 8 ∷ passes (length (pool_text c.pool)) ∷ passes 2 ∷ class_parts) walk ≡ class_step c walk
   class_begins walk =
-      let pool = slots_pass c.pool (record walk { place = walk.place + 10 }) in
       let size = ap (λ t. length (u2 (length c.pool + 1) ++ t)) (append-nil (flat_map slot_text c.pool))
       ∙ length-append (u2 (length c.pool + 1)) (flat_map slot_text c.pool) in
       let place : (walk.place + 8) + length (pool_text c.pool) ≡ (walk.place + 10) + length (flat_map slot_text c.pool) =
       omega (arith, size) in
       ap (λ m. steps (passes 2 ∷ class_parts) (record walk { place = m })) place
-      ∙ ap (λ w. step_on w (steps (passes 2 ∷ class_parts))) (sym pool)
       ∙ sym (steps_joined
-      (passes 10 ∷ each slot_step c.pool ∷ passes 2 ∷ notes false c.this_class ∷ notes true c.super_class ∷ passes 2
+      (passes 10 ∷ passes (length (flat_map slot_text c.pool)) ∷ passes 2 ∷ notes false c.this_class ∷ notes true c.super_class ∷ passes 2
       ∷ each (notes false) c.interfaces ∷ [])
       (passes 2 ∷ each (member_step Field c.pool) c.fields ∷ passes 2 ∷ each (member_step Method c.pool) c.methods ∷ passes 2
       ∷ each (attribute_step Class c.pool) c.attributes ∷ [])

@@ -6,11 +6,12 @@ use Rattle.std.proofs.lemmas.Bool.{le-leb}
 use Rattle.std.proofs.lemmas.List.{append-nil, take_at, drop_at}
 use Rattle.std.proofs.lemmas.List.Elements.{All-head, All-tail}
 use Rattle.std.proofs.lemmas.Nat.{from_be_bytes-to_be_bytes_2, from_be_bytes-to_be_bytes_4}
-use Rattle.std.specs.Int.{w16, w32}
+use Rattle.std.specs.Int.{w16, w32, byte_len, from_be_bytes, to_be_bytes}
 use Rattle.std.specs.List.{flat_map}
 use Rattle.std.specs.Prelude.{All, nat_le}
 use Rattle.jm_bytes.proofs.Choice.{same_ok}
 use Rattle.jm_class.specs.Classes.{u2, u4, counted_text, sized_text, FitsCounted}
+use Rattle.jm_class.specs.Layouts.{Size, U1, U2, U4, width, limit}
 use Rattle.jm_class.specs.Readings.{Outcome, continued, part, number, ended, whole}
 use Rattle.jm_poolmap.specs.declared.site.FoundSite.{FoundSite}
 use Rattle.jm_poolmap.specs.declared.walk.Walk.{Walk}
@@ -26,19 +27,19 @@ part_front n place xs rest size =
     let test : nat_le n (length (xs ++ rest)) ≡ true = le-leb n (length (xs ++ rest)) (omega (arith, whole, size)) in
     rw (test, take_at xs rest n size, drop_at xs rest n size) refl
 
-pub number16_front : (place n : ℕ) (rest : List ℕ) → n < 2 ^ 16 → number unfit w16 (record { place = place; bytes = u2 n ++ rest })
-    ≡ Ok (n, record { place = place + 2; bytes = rest })
-number16_front place n rest below =
-    let bytes = part_front 2 place (u2 n) rest refl in
-    let same = from_be_bytes-to_be_bytes_2 n below in
-    rw (bytes, same) refl
-
-pub number32_front : (place n : ℕ) (rest : List ℕ) → n < 2 ^ 32 → number unfit w32 (record { place = place; bytes = u4 n ++ rest })
-    ≡ Ok (n, record { place = place + 4; bytes = rest })
-number32_front place n rest below =
-    let bytes = part_front 4 place (u4 n) rest refl in
-    let same = from_be_bytes-to_be_bytes_4 n below in
-    rw (bytes, same) refl
+pub number_front : (size : Size) (place n : ℕ) (rest : List ℕ) → n < limit size
+    → number unfit (width size) (record { place = place; bytes = to_be_bytes (width size) n ++ rest })
+    ≡ Ok (n, record { place = place + byte_len (width size); bytes = rest })
+number_front size place n rest below =
+    let is = read_back size below in
+    let bytes = part_front (byte_len (width size)) place (to_be_bytes (width size) n) rest is.1 in
+    rw (bytes, is.0) refl
+  where
+    read_back : (size : Size) → n < limit size → (from_be_bytes (width size) (to_be_bytes (width size) n) ≡ n)
+        × (length (to_be_bytes (width size) n) ≡ byte_len (width size))
+    read_back U1 below = (omega (arith, below), refl)
+    read_back U2 below = (from_be_bytes-to_be_bytes_2 n below, refl)
+    read_back U4 below = (from_be_bytes-to_be_bytes_4 n below, refl)
 
 -- what a step comes to, with the bytes that are left
 abbrev pub carried : Walked → List ℕ → Outcome NoForm (List FoundSite)
@@ -70,7 +71,7 @@ follows_skip n text size = record {
 
 pub follows_site : (optional : Bool) (n : ℕ) → n < 2 ^ 16 → Follows (site_of_width w16 true optional) (u2 n) (notes optional n)
 follows_site optional n below = record {
-  reads = λ walk rest. rw (number16_front walk.place n rest below) refl;
+  reads = λ walk rest. rw (number_front U2 walk.place n rest below) refl;
   goes = λ walk new e. sym (ap (λ (w : Walk). w.place) (same_ok {E = NoForm} _ new e));
 }
 
@@ -136,7 +137,7 @@ module _ {A : Type 0} (form : Form) (text : A → List ℕ) (step : A → Step) 
       }) ≡ carried (later 2 (each step xs) walk) rest
       reads walk rest =
           let regrouped = append_assoc (u2 (length xs)) (flat_map text xs) rest in
-          let count = number16_front walk.place (length xs) (flat_map text xs ++ rest) fits.0 in
+          let count = number_front U2 walk.place (length xs) (flat_map text xs ++ rest) fits.0 in
           ap (λ bytes. counted w16 form walk.found (record { place = walk.place; bytes = bytes })) regrouped
           ∙ ap (λ o. continued o (λ count. in_order (replicate count form) walk.found)) count
           ∙ all.reads (record walk { place = walk.place + 2 }) rest
@@ -157,7 +158,7 @@ module _ (form : Form) (bytes : List ℕ) (fits : length bytes < 2 ^ 32) where
   sized_reads found place rest =
       let regrouped : sized_text bytes ++ rest ≡ u4 (length bytes) ++ (bytes ++ rest) = ap (λ t. (u4 (length bytes) ++ t) ++ rest)
       (append-nil bytes) ∙ append_assoc (u4 (length bytes)) bytes rest in
-      let size = number32_front place (length bytes) (bytes ++ rest) fits in
+      let size = number_front U4 place (length bytes) (bytes ++ rest) fits in
       let inner = part_front (length bytes) (place + 4) bytes rest refl in
       ap (λ t. sized w32 form found (record { place = place; bytes = t })) regrouped
       ∙ ap (λ o. continued o (λ size. whole unfit unfit size (form found))) size

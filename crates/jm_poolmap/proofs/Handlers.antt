@@ -6,13 +6,14 @@ use Rattle.std.proofs.lemmas.List.{append-nil, take-append-drop, length-take-le,
 use Rattle.std.specs.Int.{w16, from_be_bytes}
 use Rattle.jm_bytes.proofs.Choice.{same_ok}
 use Rattle.jm_class.specs.Classes.{u2, rows_text}
+use Rattle.jm_class.specs.Layouts.{U2}
 use Rattle.jm_class.specs.Readings.{continued}
 use Rattle.jm_poolmap.specs.declared.site.FoundSite.{FoundSite}
 use Rattle.jm_poolmap.specs.declared.walk.Walk.{Walk}
 use Rattle.jm_poolmap.specs.Attributes.{handler}
 use Rattle.jm_poolmap.specs.Forms.{NoForm, in_order, counted}
 use Rattle.jm_poolmap.specs.ComputedSites.{over, handlers_form}
-use Rattle.jm_poolmap.proofs.Following.{Follows, carried, later, part_front, number16_front}
+use Rattle.jm_poolmap.proofs.Following.{Follows, carried, later, part_front, number_front}
 
 -- the sites with that of one handler more, whose last two bytes have the number
 abbrev with_catch : List FoundSite → ℕ → List ℕ → List FoundSite
@@ -102,7 +103,7 @@ module _ (handlers : List ℕ) (rows : length handlers / 8 < 2 ^ 16) (whole : le
           let regrouped : rows_text handlers ++ rest ≡ u2 (length handlers / 8) ++ (handlers ++ rest) =
           ap (λ t. (u2 (length handlers / 8) ++ t) ++ rest) (append-nil handlers) ∙ append_assoc (u2 (length handlers / 8))
           handlers rest in
-          let count = number16_front walk.place (length handlers / 8) (handlers ++ rest) rows in
+          let count = number_front U2 walk.place (length handlers / 8) (handlers ++ rest) rows in
           let end : (walk.place + 2) + 8 * (length handlers / 8) ≡ (walk.place + 2) + length handlers =
           ap (λ m. (walk.place + 2) + m) (sym eights) in
           ap (λ t. counted w16 handler walk.found (record { place = walk.place; bytes = t })) regrouped

@@ -4,8 +4,8 @@ pub mod Following
 pub mod Handlers
 pub mod Loops
 pub mod MarkLaws
+pub mod NamePlaces
 pub mod Over
-pub mod PoolLaws
 pub mod Runs
 pub mod Shrinks
 pub mod Vectors

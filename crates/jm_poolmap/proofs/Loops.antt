@@ -7,25 +7,25 @@ use Rattle.jm_bytes.specs.declared.faults.Or.TheVariants.{Fault, Memory}
 use Rattle.jm_class.specs.Readings.{Left, Outcome}
 use Rattle.jm_poolmap.specs.declared.forms.Unknown.{Unknown}
 use Rattle.jm_poolmap.specs.declared.site.FoundSite.{FoundSite}
-use Rattle.jm_poolmap.specs.Finds.{Finds, Reads}
+use Rattle.jm_poolmap.specs.Finds.{Finds}
 use Rattle.jm_poolmap.specs.Forms.{NoForm, Form, in_order}
 
--- the error of a reading is that of the whole, where the whole isn't there without it
-pub reads_stop : {T A : Type 0} (data_of : T → A) (part : Outcome NoForm A) (all : Outcome NoForm (List FoundSite)) (error : Or Unknown)
-    (result : Result (Unit {0}) (Or Unknown)) (new : List FoundSite) (left next : Left) → IsErrAnd result (λ is. is ≡ error)
-    → Reads data_of part (Err error) left → (part ≡ Err tt → all ≡ Err tt) → Finds all result new next
-reads_stop data_of part all error (Ok v) new left next is gives stops = absurd is
-reads_stop data_of part all (Fault one) (Err (Fault other)) new left next is gives stops = stops gives
-reads_stop data_of part all (Fault one) (Err Memory) new left next is gives stops = tt
-reads_stop data_of part all Memory (Err Memory) new left next is gives stops = tt
-reads_stop data_of part all Memory (Err (Fault other)) new left next is gives stops = cc
+-- an error is that of a form that isn't there
+pub none_stop : (Is : Or Unknown → Type 0) (all : Outcome NoForm (List FoundSite)) (result : Result (Unit {0}) (Or Unknown))
+    (new : List FoundSite) (next : Left) → IsErrAnd result Is → all ≡ Err tt → Finds all result new next
+none_stop Is all (Ok v) new next is none = absurd is
+none_stop Is all (Err (Fault unknown)) new next is none = none
+none_stop Is all (Err Memory) new next is none = tt
 
--- the same of a part
+-- the error of a part is that of the whole, where the whole isn't there without it
 pub finds_stop : (part all : Outcome NoForm (List FoundSite)) (error : Or Unknown) (result : Result (Unit {0}) (Or Unknown))
     (found new : List FoundSite) (left next : Left) → IsErrAnd result (λ is. is ≡ error) → Finds {T = Unit {0}} part (Err error) found left
     → (part ≡ Err tt → all ≡ Err tt) → Finds all result new next
-finds_stop part all error result found new left next is gives stops =
-    reads_stop {T = Unit {0}} (λ _. found) part all error result new left next is gives stops
+finds_stop part all error (Ok v) found new left next is gives stops = absurd is
+finds_stop part all (Fault one) (Err (Fault other)) found new left next is gives stops = stops gives
+finds_stop part all (Fault one) (Err Memory) found new left next is gives stops = tt
+finds_stop part all Memory (Err Memory) found new left next is gives stops = tt
+finds_stop part all Memory (Err (Fault other)) found new left next is gives stops = cc
 
 -- forms of the items of a list, from one on
 module _ {A : Type 0} (form : A → Form) (xs : List A) (i : ℕ) where

@@ -5,7 +5,7 @@ use Rattle.std.proofs.Common.{Some, None, Result, Ok, Err, refl}
 use Rattle.std.specs.Prelude.{replicate, codes, option_map, option_and_then}
 use Rattle.jm_class.specs.declared.class.ClassFault.{ClassFault}
 use Rattle.jm_class.specs.Classes.{SlotData, Constant, Hole, Opaque, AttributeData, ClassData, u2}
-use Rattle.jm_class.specs.ComputedClass.{class_of}
+use Rattle.jm_class.specs.ClassLayout.{class_of}
 use Rattle.jm_class.specs.Readings.{ended}
 use Rattle.jm_class.proofs.Vectors as vectors
 use Rattle.jm_poolmap.specs.declared.site.Site.{Site}

@@ -32,40 +32,37 @@ pub data Content : Type 0 where
 abbrev pub Named : Type 0
 Named = List (List ℕ × Content)
 
+-- the attributes that a class, a field and a method may have alike
+abbrev pub common_rows : Named
+common_rows =
+    (codes "Signature", Items (Site ∷ []))
+    ∷ (codes "Deprecated", Any)
+    ∷ (codes "Synthetic", Any)
+    ∷ []
+
 -- the attributes of a class
 abbrev pub class_rows : Named
 class_rows =
-    (codes "Signature", Items (Site ∷ []))
-    ∷ (codes "SourceFile", Items (Site ∷ []))
+    (codes "SourceFile", Items (Site ∷ []))
     ∷ (codes "NestHost", Items (Site ∷ []))
     ∷ (codes "NestMembers", Rows (Site ∷ []))
     ∷ (codes "InnerClasses", Rows (Site ∷ OptionalSite ∷ OptionalSite ∷ Bytes 2 ∷ []))
     ∷ (codes "EnclosingMethod", Items (Site ∷ OptionalSite ∷ []))
     ∷ (codes "BootstrapMethods", Methods)
     ∷ (codes "SourceDebugExtension", Any)
-    ∷ (codes "Deprecated", Any)
-    ∷ (codes "Synthetic", Any)
-    ∷ []
+    ∷ common_rows
 
 -- the attributes of a field
 abbrev pub field_rows : Named
-field_rows =
-    (codes "ConstantValue", Items (Site ∷ []))
-    ∷ (codes "Signature", Items (Site ∷ []))
-    ∷ (codes "Deprecated", Any)
-    ∷ (codes "Synthetic", Any)
-    ∷ []
+field_rows = (codes "ConstantValue", Items (Site ∷ [])) ∷ common_rows
 
 -- the attributes of a method
 abbrev pub method_rows : Named
 method_rows =
     (codes "Code", Coded)
-    ∷ (codes "Signature", Items (Site ∷ []))
     ∷ (codes "Exceptions", Rows (Site ∷ []))
     ∷ (codes "MethodParameters", ShortRows (OptionalSite ∷ Bytes 2 ∷ []))
-    ∷ (codes "Deprecated", Any)
-    ∷ (codes "Synthetic", Any)
-    ∷ []
+    ∷ common_rows
 
 -- the attributes of a Code
 abbrev pub code_rows : Named

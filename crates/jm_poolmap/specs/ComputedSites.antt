@@ -101,15 +101,11 @@ member_step place pool m = steps (
     passes 2 ∷ notes false m.name ∷ notes false m.descriptor
     ∷ passes 2 ∷ each (attribute_step place pool) m.attributes ∷ [])
 
--- a slot, which has no site
-abbrev pub slot_step : SlotData → Step
-slot_step slot = passes (length (slot_text slot))
-
 -- a class up to its interfaces: magic, versions, the constants, flags, the class and the one above,
 -- interfaces
 abbrev pub front_step : ClassData → Step
 front_step c = steps (
-    passes 10 ∷ each slot_step c.pool
+    passes 10 ∷ passes (length (flat_map slot_text c.pool))
     ∷ passes 2 ∷ notes false c.this_class ∷ notes true c.super_class
     ∷ passes 2 ∷ each (notes false) c.interfaces ∷ [])
 

@@ -10,16 +10,16 @@ use Rattle.jm_poolmap.specs.ComputedSites.{Walked}
 use Rattle.jm_poolmap.specs.Forms.{NoForm}
 
 -- a reading gives this and leaves this, or there is no such form
-abbrev pub Reads : {T A : Type 0} → (T → A) → Outcome NoForm A → Result T (Or Unknown) → Left
-    → Type 0
+abbrev pub Reads : {T A : Type 0} → (T → A) → Outcome NoForm A → Result T Unknown → Left → Type 0
 Reads data_of outcome (Ok v) left = outcome ≡ Ok (data_of v, left)
-Reads data_of outcome (Err (Fault unknown)) left = outcome ≡ Err tt
-Reads data_of outcome (Err Memory) left = Unit {0}
+Reads data_of outcome (Err unknown) left = outcome ≡ Err tt
 
--- the same of a form: the sites are those that it gives
+-- the same of a form: the sites are those that it gives; want of memory tells nothing
 abbrev pub Finds : {T : Type 0} → Outcome NoForm (List FoundSite) → Result T (Or Unknown)
     → List FoundSite → Left → Type 0
-Finds outcome result found left = Reads (λ _. found) outcome result left
+Finds outcome (Ok v) found left = outcome ≡ Ok (found, left)
+Finds outcome (Err (Fault unknown)) found left = outcome ≡ Err tt
+Finds outcome (Err Memory) found left = Unit {0}
 
 -- the same of steps over a class
 abbrev pub Walks : {T : Type 0} → Walked → Result T (Or Unknown) → Walk → Type 0

@@ -7,6 +7,5 @@ pub mod Frames
 pub mod Instructions
 pub mod Items
 pub mod Live
-pub mod Pools
 pub mod Sites
 pub mod Views

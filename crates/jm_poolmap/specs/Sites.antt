@@ -3,7 +3,7 @@
 use Rattle.std.specs.Prelude.{ℕ, nat_lt, Bool, true, false, ◌==◌, ◌&&◌, ◌||◌, List, [], ◌∷◌, length}
 use Rattle.std.specs.Prelude.{map}
 use Rattle.std.specs.Prelude.{Option, Some, None, is_some, Ok, Err, take, drop, if◌then◌else◌}
-use Rattle.std.specs.Prelude.{option_and_then}
+use Rattle.std.specs.Prelude.{option_and_then, unwrap_or}
 use Rattle.std.specs.Int.{w16, from_be_bytes}
 use Rattle.std.specs.List.{list_all}
 use Rattle.jm_class.specs.Classes.{SlotData, Constant, Hole, ClassData, pool_text, class_text}
@@ -14,7 +14,7 @@ use Rattle.jm_poolmap.specs.declared.forms.Place.TheVariants.{Class, Field, Meth
 use Rattle.jm_poolmap.specs.declared.site.FoundSite.{FoundSite}
 use Rattle.jm_poolmap.specs.declared.site.Site.{Site}
 use Rattle.jm_poolmap.specs.Forms.{Form, NoForm, unfit, skip, site, optional_site, in_order}
-use Rattle.jm_poolmap.specs.Forms.{counted}
+use Rattle.jm_poolmap.specs.Forms.{counted, Rows, one, row_of}
 use Rattle.jm_poolmap.specs.Attributes.{attribute}
 
 -- A class as a form
@@ -43,22 +43,32 @@ found_in c = met (ended unfit (class c.pool []) (record { place = 0; bytes = cla
 
 -- Constants
 
+-- how constants name others, by their tags: how far they are above those that name nothing, and
+-- where in a body the numbers of others stand, two bytes each
+abbrev pub naming_rows : Rows (ℕ × List ℕ)
+naming_rows =
+    ((7, 8) ∷ one 16 ∷ (19, 20) ∷ [], (1, 0 ∷ []))
+    ∷ (one 12 ∷ [], (1, 0 ∷ 2 ∷ []))
+    ∷ ((9, 11) ∷ [], (2, 0 ∷ 2 ∷ []))
+    ∷ ((17, 18) ∷ [], (2, 2 ∷ []))
+    ∷ (one 15 ∷ [], (3, 1 ∷ []))
+    ∷ []
+
+-- the row of a tag; one without a row names nothing
+abbrev pub naming : ℕ → ℕ × List ℕ
+naming tag = unwrap_or (row_of naming_rows tag) (0, [])
+
 -- how far a constant is above those that name nothing, by its tag
 abbrev pub rank : ℕ → ℕ
-rank tag =
-    if tag == 7 || tag == 8 || tag == 12 || tag == 16 || tag == 19 || tag == 20 then 1
-    else if tag == 9 || tag == 10 || tag == 11 || tag == 17 || tag == 18 then 2
-    else if tag == 15 then 3
-    else 0
+rank tag = (naming tag).0
 
--- where in a body of this tag the numbers of constants stand, two bytes each
+-- where in a body of this tag the numbers of constants stand
 abbrev pub name_places : ℕ → List ℕ
-name_places tag =
-    if tag == 7 || tag == 8 || tag == 16 || tag == 19 || tag == 20 then 0 ∷ []
-    else if tag == 9 || tag == 10 || tag == 11 || tag == 12 then 0 ∷ 2 ∷ []
-    else if tag == 17 || tag == 18 then 2 ∷ []
-    else if tag == 15 then 1 ∷ []
-    else []
+name_places tag = (naming tag).1
+
+-- the same as sites, each of two bytes
+abbrev pub name_sites : ℕ → List Site
+name_sites tag = map (λ place. record { place = place; wide = true }) (name_places tag)
 
 -- the numbers that a constant names
 abbrev pub named_by : SlotData → List ℕ

@@ -1,6 +1,6 @@
 ghost use Rattle.std.specs.Prelude.{◌≡◌, option_map};
-ghost use Rattle.jm_poolmap.specs.Attributes.{class_rows, field_rows, method_rows, code_rows};
-ghost use Rattle.jm_poolmap.specs.Attributes.{named, content_at};
+ghost use Rattle.jm_poolmap.specs.Attributes.{common_rows, class_rows, field_rows, method_rows};
+ghost use Rattle.jm_poolmap.specs.Attributes.{code_rows, named, content_at};
 ghost use Rattle.jm_class.specs.Views.{plain};
 ghost use Rattle.jm_poolmap.specs.Views.{content_of};
 
@@ -20,14 +20,24 @@ const INNER_CLASSES: Content = Content::Rows(&[
     Item::Bytes(2),
 ]);
 
+/// What the body of an attribute consists of that a class, a field and a method may have alike.
+fn common_row(name: &[u8]) -> Option<Content>
+    ensures { option_map content_of result ≡ named common_rows name.now }
+{
+    if name == b"Signature".as_slice() {
+        Some(SITE)
+    } else if name == b"Deprecated".as_slice() || name == b"Synthetic".as_slice() {
+        Some(Content::Any)
+    } else {
+        None
+    }
+}
+
 /// What the body of an attribute of a class consists of.
 fn class_row(name: &[u8]) -> Option<Content>
     ensures { option_map content_of result ≡ named class_rows name.now }
 {
-    if name == b"Signature".as_slice()
-        || name == b"SourceFile".as_slice()
-        || name == b"NestHost".as_slice()
-    {
+    if name == b"SourceFile".as_slice() || name == b"NestHost".as_slice() {
         Some(SITE)
     } else if name == b"NestMembers".as_slice() {
         Some(SITES)
@@ -37,13 +47,10 @@ fn class_row(name: &[u8]) -> Option<Content>
         Some(Content::Items(&[Item::Site, Item::OptionalSite]))
     } else if name == b"BootstrapMethods".as_slice() {
         Some(Content::Methods)
-    } else if name == b"SourceDebugExtension".as_slice()
-        || name == b"Deprecated".as_slice()
-        || name == b"Synthetic".as_slice()
-    {
+    } else if name == b"SourceDebugExtension".as_slice() {
         Some(Content::Any)
     } else {
-        None
+        common_row(name)
     }
 }
 
@@ -51,12 +58,10 @@ fn class_row(name: &[u8]) -> Option<Content>
 fn field_row(name: &[u8]) -> Option<Content>
     ensures { option_map content_of result ≡ named field_rows name.now }
 {
-    if name == b"ConstantValue".as_slice() || name == b"Signature".as_slice() {
+    if name == b"ConstantValue".as_slice() {
         Some(SITE)
-    } else if name == b"Deprecated".as_slice() || name == b"Synthetic".as_slice() {
-        Some(Content::Any)
     } else {
-        None
+        common_row(name)
     }
 }
 
@@ -66,16 +71,12 @@ fn method_row(name: &[u8]) -> Option<Content>
 {
     if name == b"Code".as_slice() {
         Some(Content::Code)
-    } else if name == b"Signature".as_slice() {
-        Some(SITE)
     } else if name == b"Exceptions".as_slice() {
         Some(SITES)
     } else if name == b"MethodParameters".as_slice() {
         Some(Content::ShortRows(&[Item::OptionalSite, Item::Bytes(2)]))
-    } else if name == b"Deprecated".as_slice() || name == b"Synthetic".as_slice() {
-        Some(Content::Any)
     } else {
-        None
+        common_row(name)
     }
 }
 

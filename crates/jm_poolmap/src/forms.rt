@@ -1,6 +1,19 @@
+use jm_bytes::Or;
+
 /// A part of a class that isn't of a form that is known.
 #[derive(Clone, Copy)]
 pub struct Unknown;
+
+impl From<Unknown> for Or<Unknown> {
+    ghost use Rattle.jm_bytes.specs.declared.faults.Or.TheVariants.{Fault};
+    ghost use Rattle.std.specs.Prelude.{◌≡◌};
+
+    ghost from_gives = { λ unknown e. e ≡ Fault unknown };
+
+    fn from(unknown: Unknown) -> Or<Unknown> {
+        Or::Fault(unknown)
+    }
+}
 
 /// Where an attribute stands.
 #[derive(Clone, Copy)]

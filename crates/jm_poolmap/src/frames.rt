@@ -49,7 +49,7 @@ fn one_type(found: &mut List<FoundSite>, cursor: &mut Cursor) -> Result<(), Or<U
     ensures { Finds (type found.old cursor.old) result found.new cursor.new }
 {
     let byte = number8(cursor)?;
-    let row = type_row(byte).ok_or(Or::Fault(Unknown))?;
+    let row = type_row(byte).ok_or(Unknown)?;
     items(found, cursor, row)
 }
 
@@ -82,7 +82,7 @@ fn frame(found: &mut List<FoundSite>, cursor: &mut Cursor) -> Result<(), Or<Unkn
     ensures { Finds (frame found.old cursor.old) result found.new cursor.new }
 {
     let byte = number8(cursor)?;
-    let row = frame_row(byte).ok_or(Or::Fault(Unknown))?;
+    let row = frame_row(byte).ok_or(Unknown)?;
     for kind in row {
         frame_part(found, cursor, *kind)?;
     }

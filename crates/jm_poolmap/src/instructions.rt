@@ -45,7 +45,7 @@ fn wide_row(opcode: u8) -> Option<&'static [Item]>
 }
 
 /// The bytes up to a multiple of four from the start of the code.
-fn filling<'a>(cursor: &mut Cursor<'a>, start: usize) -> Result<&'a [u8], Or<Unknown>>
+fn filling<'a>(cursor: &mut Cursor<'a>, start: usize) -> Result<&'a [u8], Unknown>
     ensures { Reads (λ p. p.now) (filling start cursor.old) result cursor.new }
 {
     let size = (4 - cursor.place().saturating_sub(start) % 4) % 4;
@@ -72,7 +72,7 @@ fn instruction(
     ensures { Finds (instruction start found.old cursor.old) result found.new cursor.new }
 {
     let opcode = number8(cursor)?;
-    match instruction_row(opcode).ok_or(Or::Fault(Unknown))? {
+    match instruction_row(opcode).ok_or(Unknown)? {
         Operands::Items(list) => items(found, cursor, list),
         Operands::Table => {
             filling(cursor, start)?;
@@ -97,7 +97,7 @@ fn instruction(
         }
         Operands::Wide => {
             let opcode = number8(cursor)?;
-            let list = wide_row(opcode).ok_or(Or::Fault(Unknown))?;
+            let list = wide_row(opcode).ok_or(Unknown)?;
             items(found, cursor, list)
         }
     }

@@ -17,4 +17,5 @@ mod walk;
 mod whole;
 
 pub use finding::{PoolMap, pool_map};
+pub use naming::name_sites;
 pub use site::Site;

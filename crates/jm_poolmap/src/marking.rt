@@ -1,10 +1,10 @@
-ghost use Rattle.std.specs.Prelude.{◌≡◌, false, length, map, IfOk};
+ghost use Rattle.std.specs.Prelude.{◌≡◌, false, All, length, map, IfOk};
 ghost use Rattle.jm_class.specs.Views.{slot_of, pool_of};
+ghost use Rattle.jm_classout.specs.Fits.{FitsSlot};
 ghost use Rattle.jm_poolmap.specs.ComputedLive.{with_mark, spread, spread_from};
 ghost use Rattle.jm_poolmap.specs.ComputedLive.{flag_of, with_holes, flags_of};
-ghost use Rattle.jm_poolmap.specs.Pools.{FitsSlot, AllFit};
 
-use crate::naming::{Names, named_by};
+use crate::naming::{name_sites, number_at};
 use crate::site::FoundSite;
 use jm_bytes::{List, NoMemory};
 use jm_class::Slot;
@@ -30,19 +30,18 @@ fn spread(flags: &mut [bool], place: usize, slot: &Slot)
     if flags.get(place) != Some(&true) {
         return;
     }
-    match named_by(slot) {
-        Names::None => {}
-        Names::One(index) => mark(flags, index),
-        Names::Two(first, second) => {
-            mark(flags, first);
-            mark(flags, second);
-        }
+    let Slot::Constant { tag, body } = slot else {
+        return;
+    };
+    let sites = name_sites(*tag);
+    for site in sites {
+        mark(flags, number_at(body, site.place));
     }
 }
 
 /// Marks what the marked constants name, one after another.
 fn spread_all(flags: &mut [bool], pool: &[Slot])
-    requires { AllFit (pool_of pool.now) }
+    requires { All FitsSlot (pool_of pool.now) }
     ensures { flags.new ≡ spread_from 0 (pool_of pool.now) flags.old }
 {
     for place in 0..pool.len() {
@@ -76,7 +75,7 @@ fn with_holes(alloc: Global, pool: &[Slot], flags: &[bool]) -> Result<List<bool>
 
 /// The flags of the slots: those at sites, and what they name in three rounds.
 pub fn flags_of(alloc: Global, pool: &[Slot], found: &[FoundSite]) -> Result<List<bool>, NoMemory>
-    requires { AllFit (pool_of pool.now) }
+    requires { All FitsSlot (pool_of pool.now) }
     ensures { IfOk result (λ flags.
         flags ≡ flags_of (pool_of pool.now) (map (λ f. f.number) found.now)) }
 {

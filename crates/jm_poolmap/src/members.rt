@@ -28,7 +28,7 @@ fn opaque(
 {
     note(walk, false, name)?;
     walk.place += 4;
-    let content = content_at(class, place, name).ok_or(Or::Fault(Unknown))?;
+    let content = content_at(class, place, name).ok_or(Unknown)?;
     over(walk, PartKind::Body(content), bytes)
 }
 

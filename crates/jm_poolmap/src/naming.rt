@@ -1,57 +1,59 @@
-ghost use Rattle.std.specs.Prelude.{◌≡◌, ◌+◌, ◌≤◌, length, take, drop};
+ghost use Rattle.std.specs.Prelude.{◌≡◌, ◌+◌, ◌≤◌, All, length, take, drop};
 ghost use Rattle.std.specs.Int.{w16, from_be_bytes};
 ghost use Rattle.std.specs.List.{list_all};
 ghost use Rattle.jm_class.specs.Views.{slot_of, pool_of};
-ghost use Rattle.jm_poolmap.specs.Sites.{rank, named_by, rank_of, rank_at, is_some_below};
+ghost use Rattle.jm_classout.specs.Fits.{FitsSlot};
+ghost use Rattle.jm_poolmap.specs.Sites.{rank, name_sites, rank_of, rank_at, is_some_below};
 ghost use Rattle.jm_poolmap.specs.Sites.{names_lower, names_constant};
-ghost use Rattle.jm_poolmap.specs.Pools.{FitsSlot, AllFit, numbers_of};
 
-use crate::site::FoundSite;
+use crate::site::{FoundSite, Site};
 use jm_class::Slot;
 
-/// The numbers that a constant names.
-#[derive(Clone, Copy)]
-pub enum Names {
-    None,
-    One(u16),
-    Two(u16, u16),
-}
+const AT_FRONT: Site = Site {
+    place: 0,
+    wide: true,
+};
 
-/// How far a constant is above those that name nothing, by its tag.
-fn rank(tag: u8) -> u8
-    ensures { result ≡ rank tag }
+const BEHIND_ONE: Site = Site {
+    place: 1,
+    wide: true,
+};
+
+const BEHIND_TWO: Site = Site {
+    place: 2,
+    wide: true,
+};
+
+/// How a constant names others, by its tag: how far it is above those that name nothing, and where
+/// in its body the numbers of others stand (JVMS 4.4).
+fn naming(tag: u8) -> (u8, &'static [Site])
+    ensures rank { result.0 ≡ rank tag }
+    ensures sites { result.1.now ≡ name_sites tag }
 {
     match tag {
-        7 | 8 | 12 | 16 | 19 | 20 => 1,
-        9 | 10 | 11 | 17 | 18 => 2,
-        15 => 3,
-        _ => 0,
+        7 | 8 | 16 | 19 | 20 => (1, &[AT_FRONT]),
+        12 => (1, &[AT_FRONT, BEHIND_TWO]),
+        9 | 10 | 11 => (2, &[AT_FRONT, BEHIND_TWO]),
+        17 | 18 => (2, &[BEHIND_TWO]),
+        15 => (3, &[BEHIND_ONE]),
+        _ => (0, &[]),
     }
+}
+
+/// Where in a constant's body the numbers of others stand, by its tag.
+pub fn name_sites(tag: u8) -> &'static [Site]
+    ensures { result.now ≡ name_sites tag }
+{
+    naming(tag).1
 }
 
 /// The number of two bytes at a place.
-fn number_at(body: &[u8], place: usize) -> u16
+pub fn number_at(body: &[u8], place: u64) -> u16
     requires { place + 2 ≤ length body.now }
     ensures { result ≡ from_be_bytes w16 (take 2 (drop place body.now)) }
 {
+    let place = place as usize;
     u16::from_be_bytes([body[place], body[place + 1]])
-}
-
-/// The numbers that a constant names.
-pub fn named_by(slot: &Slot) -> Names
-    requires { FitsSlot (slot_of slot.now) }
-    ensures { numbers_of result ≡ named_by (slot_of slot.now) }
-{
-    match slot {
-        Slot::Constant { tag, body } => match *tag {
-            7 | 8 | 16 | 19 | 20 => Names::One(number_at(body, 0)),
-            9 | 10 | 11 | 12 => Names::Two(number_at(body, 0), number_at(body, 2)),
-            17 | 18 => Names::One(number_at(body, 2)),
-            15 => Names::One(number_at(body, 1)),
-            _ => Names::None,
-        },
-        Slot::Hole => Names::None,
-    }
 }
 
 /// The rank of a constant; a hole is none.
@@ -59,7 +61,7 @@ fn rank_of(slot: &Slot) -> Option<u8>
     ensures { result ≡ rank_of (slot_of slot.now) }
 {
     match slot {
-        Slot::Constant { tag, .. } => Some(rank(*tag)),
+        Slot::Constant { tag, .. } => Some(naming(*tag).0),
         Slot::Hole => None,
     }
 }
@@ -87,22 +89,21 @@ fn names_lower(pool: &[Slot], slot: &Slot) -> bool
     requires { FitsSlot (slot_of slot.now) }
     ensures { result ≡ names_lower (pool_of pool.now) (slot_of slot.now) }
 {
-    let Slot::Constant { tag, .. } = slot else {
+    let Slot::Constant { tag, body } = slot else {
         return true;
     };
-    let limit = rank(*tag);
-    match named_by(slot) {
-        Names::None => true,
-        Names::One(index) => is_below(pool, limit, index),
-        Names::Two(first, second) => {
-            is_below(pool, limit, first) && is_below(pool, limit, second)
+    let (rank, sites) = naming(*tag);
+    for site in sites {
+        if !is_below(pool, rank, number_at(body, site.place)) {
+            return false;
         }
     }
+    true
 }
 
 /// Whether all that constants name is of a lower rank.
 pub fn all_lower(pool: &[Slot]) -> bool
-    requires { AllFit (pool_of pool.now) }
+    requires { All FitsSlot (pool_of pool.now) }
     ensures { result ≡ list_all (names_lower (pool_of pool.now)) (pool_of pool.now) }
 {
     for slot in pool {

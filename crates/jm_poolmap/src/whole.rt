@@ -1,8 +1,8 @@
-ghost use Rattle.std.specs.Prelude.{◌≡◌, ◌+◌, ◌<◌, ◌^◌, false, length, map, Ok, OnOk};
+ghost use Rattle.std.specs.Prelude.{◌≡◌, ◌+◌, ◌<◌, ◌^◌, false, length, map, OnOk};
 ghost use Rattle.std.specs.List.{flat_map};
-ghost use Rattle.jm_class.specs.Classes.{u2, slot_text, class_text};
-ghost use Rattle.jm_class.specs.Views.{plain, slot_of};
-ghost use Rattle.jm_poolmap.specs.ComputedSites.{notes, each, slot_step, front_step, back_step};
+ghost use Rattle.jm_class.specs.Classes.{u2, class_text};
+ghost use Rattle.jm_class.specs.Views.{plain};
+ghost use Rattle.jm_poolmap.specs.ComputedSites.{notes, each, front_step, back_step};
 ghost use Rattle.jm_poolmap.specs.ComputedSites.{front_size, back_size, walk_of};
 ghost use Rattle.jm_poolmap.specs.Finds.{Comes, Walks};
 
@@ -10,33 +10,9 @@ use crate::forms::{Place, Unknown};
 use crate::members::{attributes, members};
 use crate::walk::{Walk, note};
 use jm_bytes::{List, Or};
-use jm_class::{Class, Slot};
+use jm_class::Class;
+use jm_classout::slots_size;
 use std::alloc::Global;
-
-/// A number of the pool.
-fn slot(walk: &mut Walk, slot: &Slot)
-    requires { walk.old.place + length (slot_text (slot_of slot.now)) < 2 ^ 64 }
-    ensures { walk.new ≡ record walk.old {
-      place = walk.old.place + length (slot_text (slot_of slot.now));
-    } }
-{
-    match slot {
-        Slot::Constant { tag: 1, body } => walk.place += 3 + body.len(),
-        Slot::Constant { body, .. } => walk.place += 1 + body.len(),
-        Slot::Hole => {}
-    }
-}
-
-fn slots(walk: &mut Walk, slots: &[Slot])
-    requires { walk.old.place + length (flat_map slot_text (map slot_of slots.now)) < 2 ^ 64 }
-    ensures step { each slot_step (map slot_of slots.now) walk.old ≡ Ok walk.new }
-    ensures place { walk.new.place
-        ≡ walk.old.place + length (flat_map slot_text (map slot_of slots.now)) }
-{
-    for next in slots {
-        slot(walk, next);
-    }
-}
 
 fn interfaces(walk: &mut Walk, interfaces: &[u16]) -> Result<(), Or<Unknown>>
     requires { walk.old.place + length (flat_map u2 interfaces.now) < 2 ^ 64 }
@@ -58,7 +34,7 @@ fn front(walk: &mut Walk, class: &Class) -> Result<(), Or<Unknown>>
         (walk.new.place ≡ walk.old.place + front_size (plain class.now)) }
 {
     walk.place += 10;
-    slots(walk, class.pool.as_slice());
+    walk.place += slots_size(class.pool.as_slice()) as usize;
     walk.place += 2;
     note(walk, false, class.this_class)?;
     note(walk, true, class.super_class)?;

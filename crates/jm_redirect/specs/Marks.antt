@@ -1,6 +1,6 @@
 -- The flags of the slots that are taken, as the code keeps them (this project's rule).
 use Rattle.std.specs.Prelude.{ℕ, ◌≡◌, ◌<◌, Bool, true, false, List, [], length, map, All}
-use Rattle.std.specs.Prelude.{slice_index_or}
+use Rattle.std.specs.Prelude.{slice_index_or, if◌then◌else◌}
 use Rattle.jm_form.specs.declared.table.Redirect.TheVariants as redirect
 use Rattle.jm_form.specs.Greedy.{is_among, slots_led}
 use Rattle.jm_redirect.specs.declared.turns.Turn.{Turn}
@@ -8,6 +8,12 @@ use Rattle.jm_redirect.specs.declared.turns.Turn.{Turn}
 -- the flags are true at the slots that are taken, and at no other
 pub record Marks (flags : List Bool) (taken : List ℕ) : Type 0 where
   pub at : (slot : ℕ) → slot < length flags → slice_index_or flags slot false ≡ is_among taken slot
+
+-- the flags of these slots are false, and the others as they were
+abbrev pub Unmarks : List ℕ → List Bool → List Bool → Type 0
+Unmarks slots old new =
+    (slot : ℕ) → slot < length old → slice_index_or new slot false
+    ≡ (if is_among slots slot then false else slice_index_or old slot false)
 
 -- all slots in front of a place are taken
 pub record TakenBelow (free : ℕ) (taken : List ℕ) : Type 0 where

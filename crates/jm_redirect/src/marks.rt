@@ -2,8 +2,8 @@
 ghost use Rattle.std.specs.Prelude.{◌≡◌, ◌<◌, ◌≤◌, ◌-◌, ◌++◌, ℕ, List, All, true, false, not};
 ghost use Rattle.std.specs.Prelude.{find, length, map, slice_index_or, if◌then◌else◌};
 ghost use Rattle.std.specs.List.{range_with_len};
-ghost use Rattle.jm_form.specs.Greedy.{is_among, are_free};
-ghost use Rattle.jm_redirect.specs.Marks.{Marks, slots_sent};
+ghost use Rattle.jm_form.specs.Greedy.{are_free};
+ghost use Rattle.jm_redirect.specs.Marks.{Marks, Unmarks, slots_sent};
 
 use crate::prefix::Bucket;
 
@@ -11,8 +11,7 @@ use crate::prefix::Bucket;
 fn unmark(slots: &[u32], taken: &mut [bool])
     requires { All (λ slot. slot < length taken.old) slots.now }
     ensures size { length taken.new ≡ length taken.old }
-    ensures gone { (slot : ℕ) → slot < length taken.old → slice_index_or taken.new slot false ≡
-        (if is_among slots.now slot then false else slice_index_or taken.old slot false) }
+    ensures gone { Unmarks slots.now taken.old taken.new }
 {
     for slot in slots {
         taken[*slot as usize] = false;
@@ -30,7 +29,8 @@ pub fn mark(bucket: &Bucket, seed: u32, slots: u32, taken: &mut [bool], marked: 
     ensures fits { (before : List ℕ) → Marks taken.old before → result ≡
         are_free before (slots_sent slots seed (map (λ name. name.now) bucket.now.names.now)) }
     ensures marks { (before : List ℕ) → Marks taken.old before → Marks taken.new
-        (if result then slots_sent slots seed (map (λ name. name.now) bucket.now.names.now) ++ before
+        (if result
+        then slots_sent slots seed (map (λ name. name.now) bucket.now.names.now) ++ before
         else before) }
 {
     let state = bucket.state_after_prefix(seed);

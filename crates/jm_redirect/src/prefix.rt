@@ -3,7 +3,7 @@ ghost use Rattle.std.specs.Prelude.{◌≡◌, ◌≤◌, ◌<◌, ℕ, All, len
 ghost use Rattle.jm_names.specs.Hash.{hash, state_after};
 ghost use Rattle.jm_redirect.specs.Prefixes.{BeginsWith};
 
-use jm_names::{hash_of_state, state_after};
+use jm_names::{hash_of_state, shared_len, state_after};
 
 /// The names of a bucket. What their hashes have in common, from one seed, is the state after the
 /// prefix that they share, so that it is computed once.
@@ -12,18 +12,6 @@ pub struct Bucket<'t, 'n> {
     pub names: &'t [&'n [u8]],
     prefix: &'n [u8],
     ghost shared: { All (λ name. BeginsWith prefix.now name.now) names.now },
-}
-
-/// How long a prefix two names share.
-fn shared_len(name: &[u8], other: &[u8]) -> usize
-    ensures within { result ≤ length name.now }
-    ensures same { take result name.now ≡ take result other.now }
-{
-    let mut at = 0;
-    while at < name.len() && at < other.len() && name[at] == other[at] {
-        at += 1;
-    }
-    at
 }
 
 /// The prefix that all of the names share; an empty one where there is no name.

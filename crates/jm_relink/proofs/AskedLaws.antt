@@ -1,6 +1,6 @@
 -- What was seen of an image is what `gather` asks for: names that differ and have no slash, and
 -- paths that differ.
-use Rattle.std.proofs.Common.{◌≡◌, ◌≢◌, ◌<◌, ℕ, Bool, true, false, List, length, map, get_or, All, AllPairs}
+use Rattle.std.proofs.Common.{◌≡◌, ◌≢◌, ◌<◌, ℕ, Bool, true, false, List, length, map, get_or, All, AllPairs, rules}
 use Rattle.std.proofs.Common.{Some, slice_get, Result, Ok, Err, IfOk, refl, sym, ap, subst, ◌∙◌, arith}
 use Rattle.std.proofs.lemmas.Bool.{ltb-false, ltb-true}
 use Rattle.std.proofs.lemmas.List.{get_or-map, length-map}
@@ -41,9 +41,7 @@ Before c d = is_before (closure.name_of c) (closure.name_of d) ≡ true
 
 pub before_at : (cs : List Candidate) → AllPairs Before cs → (i j : ℕ) (c e : Candidate) → slice_get cs i ≡ Some c → slice_get cs j
     ≡ Some e → i < j → Before c e
-before_at cs rises i j c e one other less =
-    let up = rises i j c less (slice_get_within cs j e other) in
-    rw (get_or_from_slice_get cs i c c one, get_or_from_slice_get cs j e c other) at up
+before_at cs rises i j c e one other less = search (rules, get_or_from_slice_get, slice_get_within)
 
 never : (c e : Candidate) (name : List ℕ) → closure.name_of c ≡ name → closure.name_of e ≡ name → Before c e → ⊥
 never c e name one other before = before_other name (rw (one, other) at before)
@@ -97,15 +95,10 @@ module _ (release : ℕ) (b : List ℕ) (modules : ImageModules) (seen : List Se
       (contains_map (files_in b) modules.files fs there)))
 
   as_long : length modules.candidates ≡ length modules.files
-  as_long =
-      ap length holds.candidates ∙ length-map seen (λ (s : SeenModule). s.candidate)
-      ∙ sym (sym (length-map modules.files (files_in b)) ∙ ap length holds.files ∙ length-map seen (λ (s : SeenModule). s.files))
+  as_long = search (rules, length-map)
 
   as_many : length modules.candidates ≡ length modules.infos
-  as_many =
-      ap length holds.candidates ∙ length-map seen (λ (s : SeenModule). s.candidate)
-      ∙ sym (sym (length-map modules.infos (λ (text : List ℕ). Some text)) ∙ ap length holds.infos
-      ∙ length-map seen (λ (s : SeenModule). info_content s.files))
+  as_many = search (rules, length-map)
 
   -- the descriptors are those of the image
   pub image_infos : HasInfos b modules

@@ -1,5 +1,5 @@
 -- The files of chosen modules, one file after another and one module after another.
-use Rattle.std.proofs.Common.{◌≡◌, ◌≢◌, ℕ, ◌+◌, ◌<◌, Bool, true, false, cond, List, [], ◌∷◌, ◌++◌, take, drop}
+use Rattle.std.proofs.Common.{◌≡◌, ◌≢◌, ℕ, ◌+◌, ◌<◌, Bool, true, false, cond, List, [], ◌∷◌, ◌++◌, take, rules}
 use Rattle.std.proofs.Common.{length, get_or, map}
 use Rattle.std.proofs.Common.{All, AllPairs, Contains, Option, Some, None, option_map, slice_get, Ok, refl, sym, ap, subst, ◌∙◌}
 use Rattle.std.proofs.Common.{append_assoc, arith}
@@ -25,7 +25,7 @@ use Rattle.jm_relink.specs.declared.modules.ImageFile.{ImageFile}
 use Rattle.jm_relink.specs.declared.modules.ImageModules.{ImageModules}
 use Rattle.jm_relink.specs.Choosing.{ArePut, IsChosen, IsDescribedIn, IsDescription, WasRead, chosen_in}
 use Rattle.jm_relink.specs.Files.{file_in, file_name, files_in}
-use Rattle.jm_relink.specs.Gathering.{AreModules, HasInfos, bad_name, first_bad_name, gathered, resource_of}
+use Rattle.jm_relink.specs.Gathering.{AreModules, HasInfos, first_bad_name, gathered, resource_of}
 use Rattle.jm_relink.specs.Groups.{info_content}
 use Rattle.jm_relink.proofs.GatherLaws.{IsNext, all_got, all_with, bad_append_none, bad_one, refused_further, resources_more}
 use Rattle.jm_relink.proofs.ListLaws.{one_of}
@@ -50,23 +50,13 @@ pub file_chosen : (b m info : List ℕ) (f : ImageFile) (chosen : ChosenFile) �
     → chosen.name ≡ file_name m f.path → chosen.content ≡ f.content
     → chosen.described ≡ cond (bytes_eq f.path info_name) (Some info) None → name_fault (file_name m f.path) ≡ None
     → IsChosen b (resource_of m (file_in b f)) (Ok chosen)
-file_chosen b m info f chosen whole read named stands described sound =
-    let same : ◌≡◌ {A = Named} (chosen_in b chosen) (resource_of m (file_in b f)) = same_pair chosen.name (file_name m f.path)
-    (content_at b chosen.content) (content_at b f.content) named (ap (content_at b) stands) in (
-      ap (option_map (bad_name (file_name m f.path))) sound,
-      same,
-      subst (λ r. IsDescription r chosen.described) (sym same) (kept b m info f chosen.described whole read described),
-    )
+file_chosen b m info f chosen whole read named stands described sound = search (rules, same_pair, kept)
 
 -- One after another
 
 pub put_more : (b : List ℕ) (rs qs : List Named) (old next new : List ChosenFile) → ArePut b rs old next → ArePut b qs next new
     → ArePut b (rs ++ qs) old new
-put_more b rs qs old next new one other = record {
-  sound = bad_append_none rs qs one.sound ∙ other.sound;
-  put = other.put ∙ ap (λ xs. xs ++ qs) one.put ∙ append_assoc (map (chosen_in b) old) rs qs;
-  described = λ all. other.described (one.described all);
-}
+put_more b rs qs old next new one other = search (rules, append_assoc, bad_append_none)
 
 pub put_one : (b : List ℕ) (r : Named) (old new : List ChosenFile) (f : ChosenFile) → IsChosen b r (Ok f) → new ≡ old ++ f ∷ []
     → ArePut b (r ∷ []) old new
@@ -142,7 +132,4 @@ module_put b modules places i rs old next new is before one =
 pub module_refused : (b : List ℕ) (modules : ImageModules) (places : List ℕ) (i : ℕ) (rs : List Named) (e : GatherFault)
     → IsNext b modules places i rs → first_bad_name (gathered b modules (take i places)) ≡ None → first_bad_name rs ≡ Some e
     → first_bad_name (gathered b modules places) ≡ Some e
-module_refused b modules places i rs e next none given =
-    refused_further (gathered b modules places) (gathered b modules (take i places)) rs
-    (gathered b modules (drop (i + 1) places)) e
-    next.whole none given
+module_refused b modules places i rs e next none given = search (rules, refused_further)

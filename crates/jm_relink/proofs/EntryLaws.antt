@@ -1,5 +1,5 @@
 -- The modules that have a descriptor, of the entries of an image that rise by name.
-use Rattle.std.proofs.Common.{◌≡◌, ◌≢◌, ℕ, Bool, true, false, ◌&&◌, not, List, [], ◌∷◌, ◌++◌, All, AllPairs, Contains, map}
+use Rattle.std.proofs.Common.{◌≡◌, ◌≢◌, ℕ, Bool, true, false, ◌&&◌, List, [], ◌∷◌, ◌++◌, All, AllPairs, Contains, map, rules}
 use Rattle.std.proofs.Common.{get_or, IsPermutation, None, option_to_list, refl, sym, ap, subst, ◌∙◌}
 use Rattle.std.proofs.lemmas.List.Elements.{All-weaker}
 use Rattle.std.proofs.lemmas.List.Kept.{AllPairs-filter}
@@ -12,13 +12,11 @@ use Rattle.jm_bytes.proofs.Pairs.{pairs_map, pairs_weaker}
 use Rattle.jm_bytes.proofs.SameOrder.{filter_mapped, filter_same, same_order}
 use Rattle.jm_bytes.specs.ByteOrder.{is_before}
 use Rattle.jm_filed.specs.declared.taking.TakenEntry.{TakenEntry}
-use Rattle.jm_filed.specs.Parts.{named}
-use Rattle.jm_filed.specs.Taken.{taken, taken_among, taken_as, is_taken}
+use Rattle.jm_filed.specs.Taken.{taken, taken_among, taken_as}
 use Rattle.jm_form.specs.Entries.{Entry}
 use Rattle.jm_form.specs.Validity.{resources}
 use Rattle.jm_names.proofs.KeyLaws.{differ_moved}
 use Rattle.jm_names.specs.ByName.{Named, RisesByName, by_name}
-use Rattle.jm_names.specs.Names.{is_node}
 use Rattle.jm_reader.specs.Walk.{entries_of}
 use Rattle.jm_relink.specs.declared.entries.ModuleEntries.{ModuleEntries}
 use Rattle.jm_relink.specs.Entries.{AreEntriesOf, EntriesWithin, FilesWithin, HasExtent, HasInfoAt}
@@ -38,10 +36,7 @@ no_other true = refl
 no_other false = refl
 
 all_taken : (es : List Entry) → taken_among None es ≡ resources es
-all_taken es =
-    filter_mapped (λ (e : Named). is_taken None e.0) named es
-    ∙ ap (map named) (filter_same (λ (e : Entry). is_taken None e.name) (λ (e : Entry). not (is_node e.name)) es
-    (λ k d below. no_other (not (is_node (get_or es k d).name))))
+all_taken es = search (rules, filter_mapped, filter_same, no_other)
 
 abbrev files_of : Named → List Filed
 files_of r = option_to_list (located r)

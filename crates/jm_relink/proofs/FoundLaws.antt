@@ -1,5 +1,5 @@
 -- What the code finds of the modules that an index tells, from what their descriptors say.
-use Rattle.std.proofs.Common.{◌≡◌, ℕ, ◌+◌, ◌<◌, cond, take, List, [], ◌∷◌, ◌++◌, length, map, get_or, All, Option}
+use Rattle.std.proofs.Common.{◌≡◌, ℕ, ◌+◌, ◌<◌, cond, take, List, [], ◌∷◌, ◌++◌, length, map, get_or, All, Option, rules}
 use Rattle.std.proofs.Common.{Some, None, is_some}
 use Rattle.std.proofs.Common.{option_to_list, Result, Ok, Err, refl, sym, ap, subst, ◌∙◌}
 use Rattle.std.proofs.Math.Seq.{get_or-append_seam}
@@ -43,12 +43,7 @@ as_many f g xs ys same = sym (length-map xs f) ∙ ap length same ∙ length-map
 pub info_at : (b : List ℕ) (ms done : List ModuleEntries) (m : ModuleEntries) (rest : List ModuleEntries) (infos : List (List ℕ))
     (info : List ℕ) (n : ℕ) → AreInfosIn b ms infos → done ++ m ∷ rest ≡ ms → n ≡ length done → info ≡ get_or infos n info
     → info ≡ content_at b m.info
-info_at b ms done m rest infos info n read whole place is =
-    let f : ModuleEntries → List ℕ = λ k. content_at b k.info in
-    let parts : infos ≡ map f done ++ f m ∷ map f rest = read ∙ ap (map f) (sym whole) ∙ map-append f done (m ∷ rest) in
-    is ∙ ap (λ xs. get_or xs n info) parts
-    ∙ ap (λ k. get_or (map f done ++ f m ∷ map f rest) k info) (place ∙ sym (length-map done f))
-    ∙ get_or-append_seam (map f done) (f m) (map f rest) info
+info_at b ms done m rest infos info n read whole place is = search (rules, get_or-append_seam, length-map, map-append)
 
 -- a module is judged by it
 group_judged : (release : ℕ) (b : List ℕ) (m : ModuleEntries) (info : List ℕ) (r : Result SeenModule RelinkFault) → HasInfoAt b m
@@ -117,10 +112,8 @@ entries_due release b ms r are due =
 
 infos_each : (b : List ℕ) (ms : List ModuleEntries) → All (HasInfoAt b) ms
     → map (λ m. info_content (files_in b m.files)) ms ≡ map (λ (text : List ℕ). Some text) (map (λ m. content_at b m.info) ms)
-infos_each b [] has = refl
-infos_each b (m ∷ ms) has =
-    ap (λ o. o ∷ map (λ (k : ModuleEntries). info_content (files_in b k.files)) ms) (All-head (HasInfoAt b) m ms has)
-    ∙ ap (λ os. Some (content_at b m.info) ∷ os) (infos_each b ms (All-tail (HasInfoAt b) m ms has))
+infos_each b [] has = search (rules)
+infos_each b (m ∷ ms) has = search (rules, All-head, All-tail, (infos_each b ms (All-tail (HasInfoAt b) m ms has)))
 
 holds : (b : List ℕ) (ms : List ModuleEntries) (infos : List (List ℕ)) (seen : List handed.SeenModule) (found : ImageModules)
     → All (HasInfoAt b) ms → AreInfosIn b ms infos → map (λ (s : handed.SeenModule). s.files) seen

@@ -1,5 +1,5 @@
 -- The resources of chosen modules: their names differ, and the first bad name of all is that of a part.
-use Rattle.std.proofs.Common.{◌≡◌, ◌≢◌, ℕ, zero, suc, ◌+◌, ◌<◌, false, List, [], ◌∷◌, ◌++◌, take, drop}
+use Rattle.std.proofs.Common.{◌≡◌, ◌≢◌, ℕ, zero, suc, ◌+◌, ◌<◌, false, List, [], ◌∷◌, ◌++◌, take, drop, rules}
 use Rattle.std.proofs.Common.{length, map, get_or, All, AllPairs, Contains, Option, Some, None, option_map}
 use Rattle.std.proofs.Common.{slice_get, Result, Err, refl, sym, ap, subst, ◌∙◌, arith}
 use Rattle.std.proofs.lemmas.Grind.{flat_map-append}
@@ -40,10 +40,8 @@ refused_as P Q Memory to due = tt
 -- Names that are new
 
 pub bytes_of_none : (name : List ℕ) (pairs : List Named) → All (λ other. other ≢ name) (names_of pairs) → bytes_of name pairs ≡ None
-bytes_of_none name [] all = refl
-bytes_of_none name (p ∷ pairs) all =
-    rw (unequal name p.0 (All-head (λ other. other ≢ name) p.0 (names_of pairs) all))
-    (bytes_of_none name pairs (All-tail (λ other. other ≢ name) p.0 (names_of pairs) all))
+bytes_of_none name [] all = search (rules)
+bytes_of_none name (p ∷ pairs) all = search (rules, All-head, All-tail, unequal, (bytes_of_none name pairs (All-tail (λ other. other ≢ name) p.0 (names_of pairs) all)))
 
 -- One file after another
 
@@ -124,11 +122,7 @@ unzipped (a ∷ xs) (b ∷ ys) (suc i) z is = unzipped xs ys i z is
 
 gathered_append : (b : List ℕ) (modules : ImageModules) (ps qs : List ℕ) → gathered b modules (ps ++ qs) ≡ gathered b modules ps
     ++ gathered b modules qs
-gathered_append b modules ps qs =
-    ap (flat_map (λ (m : List ℕ × List Named). resources_with m.0 m.1)) (filter_map-append (slice_get (named_files b modules)) ps
-    qs)
-    ∙ flat_map-append (λ (m : List ℕ × List Named). resources_with m.0 m.1) (filter_map (slice_get (named_files b modules)) ps)
-    (filter_map (slice_get (named_files b modules)) qs)
+gathered_append b modules ps qs = search (rules, slice_get, flat_map-append, filter_map-append)
 
 -- the module at a place
 module_at : (b : List ℕ) (modules : ImageModules) (p : ℕ) (c : Candidate) (fs : List ImageFile) → slice_get modules.candidates p
@@ -151,10 +145,7 @@ pub module_there : (b : List ℕ) (modules : ImageModules) (p : ℕ) (c : Candid
     → p < length modules.candidates → c ≡ get_or modules.candidates p c → fs ≡ get_or modules.files p fs
     → gathered b modules (p ∷ [])
     ≡ all_with b c.descriptor.name fs
-module_there b modules p c fs are within one other =
-    module_at b modules p c fs
-    (slice_get-get_or modules.candidates p c within ∙ ap (λ k. Some k) (sym one))
-    (slice_get-get_or modules.files p fs (omega (arith, within, are.long)) ∙ ap (λ gs. Some gs) (sym other))
+module_there b modules p c fs are within one other = search (rules, slice_get-get_or, module_at)
 
 -- the resources of the next module stand after those of the earlier ones
 pub record IsNext (b : List ℕ) (modules : ImageModules) (places : List ℕ) (i : ℕ) (rs : List Named) : Type 0 where
@@ -222,13 +213,7 @@ record IsAt (b : List ℕ) (modules : ImageModules) (p : ℕ) (m : List ℕ × L
 
 at_place : (b : List ℕ) (modules : ImageModules) (p : ℕ) (m : List ℕ × List Named) → slice_get (named_files b modules) p ≡ Some m
     → IsAt b modules p m
-at_place b modules p m is =
-    let both = unzipped (map (λ (c : Candidate). c.descriptor.name) modules.candidates) (map (files_in b) modules.files) p m is in
-    let one = mapped_some (λ (c : Candidate). c.descriptor.name) (slice_get modules.candidates p) m.0
-    (sym (slice_get-map (λ (c : Candidate). c.descriptor.name) modules.candidates p) ∙ both.0) in
-    let other = mapped_some (files_in b) (slice_get modules.files p) m.1 (sym (slice_get-map (files_in b) modules.files p)
-    ∙ both.1) in
-    record { candidate = one.0; there = one.1; name = one.2; files = other.0; among = other.1; are = other.2 }
+at_place b modules p m is = search (rules, slice_get, slice_get-map, mapped_some, unzipped)
 
 whole_at : (b : List ℕ) (modules : ImageModules) (p : ℕ) (m : List ℕ × List Named) → AreModules modules → IsAt b modules p m
     → IsWhole m

@@ -1,5 +1,5 @@
 -- Files module by module: they are the same files, and where those are sorted the modules rise.
-use Rattle.std.proofs.Common.{◌≡◌, ◌≢◌, ℕ, Bool, true, false, cond, List, [], ◌∷◌, ◌++◌, append_assoc, All}
+use Rattle.std.proofs.Common.{◌≡◌, ◌≢◌, ℕ, Bool, true, false, cond, List, [], ◌∷◌, ◌++◌, append_assoc, All, rules}
 use Rattle.std.proofs.Common.{AllPairs, Contains, refl, sym, ap, subst, ◌∙◌}
 use Rattle.std.proofs.lemmas.Bool.{false≢true, false_from_ne_true}
 use Rattle.std.proofs.lemmas.List.{map-append}
@@ -82,9 +82,7 @@ lesser_first Greater p h = cc
 
 -- no module stands before that of an earlier file
 no_lesser : (e f : Filed) → is_lt (filed_cmp f e) ≡ false → is_before f.0 e.0 ≡ false
-no_lesser e f falls =
-    false_from_ne_true (is_before f.0 e.0)
-    (λ lesser. false≢true (sym falls ∙ lesser_first (slice_cmp nat_cmp f.0 e.0) (slice_cmp nat_cmp f.1.0 e.1.0) lesser))
+no_lesser e f falls = search (rules, false≢true, false_from_ne_true, lesser_first)
 
 -- what holds of the modules of all files
 modules_in : (P : List ℕ → Type 0) (g : Group) (es : List Filed) → P g.0 → All (λ e. P e.0) es → All (λ h. P h.0) (groups_from g es)
@@ -101,12 +99,7 @@ modules_in P g (e ∷ es) this all =
     go false one other = All-cons (λ (h : Group). P h.0) g (groups_from (begun_as e) es) this other
 
 before_or : (n m : List ℕ) → is_before m n ≡ false → n ≢ m → is_before n m ≡ true
-before_or n m behind_not differ =
-    elim (stand n m) [
-      | stands_before h ↦ h
-      | is_one h ↦ absurd (differ h)
-      | stands_behind h ↦ absurd (false≢true (sym behind_not ∙ h))
-    ]
+before_or n m behind_not differ = search (rules, false≢true, stand, stands_before, is_one, stands_behind)
 
 rises_from : (g : Group) (es : List Filed) → All (λ e. is_before e.0 g.0 ≡ false) es → AllPairs Falls es
     → AllPairs Before (groups_from g es)

@@ -1,6 +1,6 @@
 -- What the code's groups of files are, one entry after another.
-use Rattle.std.proofs.Common.{◌≡◌, ℕ, cond, List, [], ◌∷◌, ◌++◌, All, IfOk, IfSome, map, Option, Some, None}
-use Rattle.std.proofs.Common.{is_some, option_map, option_to_list, Result, refl, sym, ap, ap₂, subst, ◌∙◌}
+use Rattle.std.proofs.Common.{◌≡◌, ℕ, cond, List, [], ◌∷◌, ◌++◌, All, IfOk, IfSome, map, Option, Some, None, rules}
+use Rattle.std.proofs.Common.{is_some, option_map, option_to_list, Result, refl, sym, ap, subst, ◌∙◌}
 use Rattle.std.proofs.lemmas.List.{map-append, map_push}
 use Rattle.std.proofs.lemmas.List.Elements.{All-append, All-head, All-nil, All-push, All-tail}
 use Rattle.std.proofs.lemmas.Result.{IfOk-weaker}
@@ -15,8 +15,8 @@ use Rattle.jm_relink.specs.declared.entries.ModuleEntries.{ModuleEntries}
 use Rattle.jm_relink.specs.declared.groups.ModuleFiles.{ModuleFiles}
 use Rattle.jm_relink.specs.declared.modules.ImageFile.{ImageFile}
 use Rattle.jm_relink.specs.Entries.{FilesWithin, HasExtent}
-use Rattle.jm_relink.specs.Files.{AllWithin, Filed, file_in, files_in, located, located_among, module_and_path}
-use Rattle.jm_relink.specs.Groups.{Group, GroupWithin, KnowsInfo, begun_group, described_from, files_of, group_in, groups, groups_from, has_info}
+use Rattle.jm_relink.specs.Files.{AllWithin, Filed, located, located_among, module_and_path}
+use Rattle.jm_relink.specs.Groups.{Group, GroupWithin, KnowsInfo, begun_group, described_from, files_of, group_in, groups, has_info}
 use Rattle.jm_relink.proofs.InfoLaws.{extent_content}
 use Rattle.jm_relink.proofs.JoinedLaws.{file_joins}
 use Rattle.jm_relink.proofs.ListLaws.{all_alone, map_alone, put_alone}
@@ -57,18 +57,7 @@ pub entry_joins : (b : List ℕ) (old new : List ModuleEntries) (o : Option Grou
     → ((f : Named) (rest : List Filed) → map (group_in b) new ++ described_from (Some (files_of b g)) ((m, f) ∷ rest)
     ≡ map (group_in b) old ++ described_from o ((m, f) ∷ rest)) → (rest : List Filed) → map (group_in b) new ++ described_from (Some (files_of b next)) rest
     ≡ map (group_in b) old ++ described_from o (option_to_list (located (taken_as b t)) ++ rest)
-entry_joins b old new o g next t m p file cut path content of_module same_module put goes rest =
-    let f : Named = (p, content_at b t.content) in
-    let own : ◌≡◌ {A = Named} (file_in b file) f = ap₂ (λ (n : List ℕ) (x : Extent). (n, content_at b x)) path content in
-    let there : located (taken_as b t) ≡ Some (m, f) =
-    ap (option_map (λ (parts : List ℕ × List ℕ). (parts.0, (parts.1, content_at b t.content)))) cut in
-    let files : files_in b next.files ≡ files_in b g.files ++ f ∷ [] =
-    ap (files_in b) put ∙ map_push (file_in b) g.files file ∙ ap (λ x. files_in b g.files ++ x ∷ []) own in
-    ap₂ (λ n fs. map (group_in b) new ++ filter has_info (groups_from (n, fs) rest)) (same_module ∙ of_module) files
-    ∙ ap (λ gs. map (group_in b) new ++ filter has_info gs) (sym (file_joins m (files_in b g.files) f rest))
-    ∙ ap (λ n. map (group_in b) new ++ filter has_info (groups_from (n, files_in b g.files) ((m, f) ∷ rest))) (sym of_module)
-    ∙ goes f rest
-    ∙ sym (ap (λ x. map (group_in b) old ++ described_from o (option_to_list x ++ rest)) there)
+entry_joins b old new o g next t m p file cut path content of_module same_module put goes rest = search (rules, option_to_list, map_push, file_joins)
 
 pub file_within : (size : ℕ) (old new : List ImageFile) (f : ImageFile) → new ≡ old ++ f ∷ [] → AllWithin size old
     → IsWithin size f.content → AllWithin size new
@@ -92,16 +81,7 @@ module _ (entries : List TakenEntry) where
     within : (size : ℕ) → LieWithin size entries → GroupsWithin size done current rest
 
   pub grouped_first : (done : List ModuleEntries) (rest : List TakenEntry) → done ≡ [] → rest ≡ entries → AreGrouped done None rest
-  grouped_first done rest none all = record {
-    so_far = λ b. ap₂ (λ ms ts. map (group_in b) ms ++ filter has_info (groups (located_among b ts))) none all;
-    known = tt;
-    infos = subst (All HasExtent) (sym none) (All-nil HasExtent);
-    within = λ size inside. record {
-      earlier = subst (All (FilesWithin size)) (sym none) (All-nil (FilesWithin size));
-      here = tt;
-      coming = subst (LieWithin size) (sym all) inside;
-    };
-  }
+  grouped_first done rest none all = search (rules, All-nil)
 
   pub grouped_next : (done new : List ModuleEntries) (current next : Option ModuleFiles) (t : TakenEntry) (left rest : List TakenEntry)
       → AreGrouped done current left → left ≡ t ∷ rest

@@ -1,5 +1,5 @@
 -- The modules of an image, from its files sorted by module and by path.
-use Rattle.std.proofs.Common.{◌≡◌, ◌≢◌, ℕ, inl, inr, true, false, List, [], ◌∷◌, ◌++◌, find, map, AllPairs}
+use Rattle.std.proofs.Common.{◌≡◌, ◌≢◌, ℕ, inl, inr, true, false, List, [], ◌∷◌, ◌++◌, find, map, AllPairs, rules}
 use Rattle.std.proofs.Common.{Contains, IsPermutation, IsTrue, Option, Some, None, option_map, not, Result}
 use Rattle.std.proofs.Common.{Ok, Err, refl, sym, ap, subst, ◌∙◌}
 use Rattle.std.proofs.lemmas.List.Elements.{All-contains, Contains-append_cases, Contains-append_right}
@@ -81,10 +81,7 @@ file_from rs fs m f are there =
 
 file_there : (rs : List Named) (fs : List Filed) (m : List ℕ) (f : Named) → AreSorted rs fs → list_any is_slash m ≡ false
     → Contains rs (file_name m f.0, f.1) → Contains fs (m, f)
-file_there rs fs m f are whole there =
-    let is : located (file_name m f.0, f.1) ≡ Some (m, f) = ap (option_map (λ (cut : List ℕ × List ℕ). (cut.0, (cut.1, f.1))))
-    (parts_of_file m f.0 whole) in
-    Contains-permutation (filter_map located rs) fs (m, f) are.moved (contains_filter_map located rs (file_name m f.0, f.1) (m, f) there is)
+file_there rs fs m f are whole there = search (rules, Contains-permutation, contains_filter_map, parts_of_file)
 
 -- no two files have one module and one path
 keys_differ : (rs : List Named) (fs : List Filed) → AreSorted rs fs → AllPairs (λ e f. file_name e.0 e.1.0 ≢ file_name f.0 f.1.0) fs
@@ -177,9 +174,7 @@ seen_from release rs fs g s are there due = go (info_content g.1) refl due
 
 value_some : (release : ℕ) (g : Group) (s : SeenModule) → IsFree release g → seen_of release g ≡ Some s
     → group_due release g ≡ Ok (Some s)
-value_some release g s free is =
-    let one : free.0 ≡ Some s = sym (ap (λ (r : Result (Option SeenModule) RelinkFault). value r) free.1) ∙ is in
-    free.1 ∙ ap (λ o. Ok o) one
+value_some release g s free is = cc
 
 -- a module whose entry is there is judged by it
 free_of : (release : ℕ) (g : Group) (content : List ℕ) → info_content g.1 ≡ Some content → IsFree release g

@@ -1,6 +1,6 @@
 -- Names of resources: the module and the path of each.
-use Rattle.std.proofs.Common.{inl, inr, ◌≡◌, ◌≤◌, ℕ, suc, ◌+◌, Bool, true, false, ◌&&◌, ◌||◌, not, cond, List, []}
-use Rattle.std.proofs.Common.{◌∷◌, ◌++◌, take, drop, length, Some, None, refl, sym, ap, ◌∙◌, subst, arith}
+use Rattle.std.proofs.Common.{◌≡◌, ◌≤◌, ℕ, suc, ◌+◌, Bool, true, false, ◌&&◌, ◌||◌, not, cond, List, [], rules}
+use Rattle.std.proofs.Common.{◌∷◌, ◌++◌, take, drop, length, Some, refl, sym, ap, ◌∙◌, subst, arith}
 use Rattle.std.proofs.lemmas.Bool.{false≢true, eqb-true}
 use Rattle.std.proofs.lemmas.List.{append_cancel_left, length-append, take_at}
 use Rattle.std.specs.List.{after_first, before_first, list_any, position_or_len}
@@ -74,27 +74,8 @@ pub record IsFileName (name m p : List ℕ) : Type 0 where
   pub is : name ≡ file_name m p
 
 pub file_of_parts : (name m p : List ℕ) → module_and_path name ≡ Some (m, p) → IsFileName name m p
-file_of_parts [] m p h = cc
-file_of_parts (b ∷ name) m p h =
-    elim (chosen (is_slash b && list_any is_slash name) (Some (before_first is_slash name, after_first is_slash name)) None
-    (Some (m, p)) h) [
-      | inl passes ↦
-          let tests = both (is_slash b) (list_any is_slash name) passes.0 in
-          let first = same_first (before_first is_slash name) m (after_first is_slash name) p passes.1 in
-          let second = same_second (before_first is_slash name) m (after_first is_slash name) p passes.1 in
-          let cut = first_parts is_slash name 0 tests.1 in
-          let slash : cut.0 ≡ 47 = eqb-true cut.0 47 cut.1 in
-          let head : b ≡ 47 = eqb-true b 47 tests.0 in
-          let rest : name ≡ m ++ 47 ∷ p =
-          sym cut.2 ∙ ap (λ c. before_first is_slash name ++ c ∷ after_first is_slash name) slash
-          ∙ ap (λ n. n ++ 47 ∷ after_first is_slash name) first ∙ ap (λ q. m ++ 47 ∷ q) second
-          in
-          record {
-            whole = subst (λ n. list_any is_slash n ≡ false) first (none_before name);
-            is = ap (λ c. c ∷ name) head ∙ ap (λ n. 47 ∷ n) rest;
-          }
-      | inr fails ↦ cc
-    ]
+file_of_parts [] m p h = search (rules)
+file_of_parts (b ∷ name) m p h = search (rules, eqb-true, chosen, same_first, same_second, first_parts, none_before, both)
 
 -- a resource that is a file of a module has the name that the module and the path make
 pub located_from : (r : Named) (e : Filed) → located r ≡ Some e → (list_any is_slash e.0 ≡ false) × (r ≡ (file_name e.0 e.1.0, e.1.1))

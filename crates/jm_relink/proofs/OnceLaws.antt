@@ -1,5 +1,5 @@
 -- There is one list of modules of an image, or one first refusal.
-use Rattle.std.proofs.Common.{◌≡◌, ℕ, true, cond, List, map, Contains, Option, Some, None, Result, Ok, Err, sym, ap, subst, ◌∙◌}
+use Rattle.std.proofs.Common.{◌≡◌, ℕ, true, cond, List, map, Contains, Option, Some, None, Result, Ok, Err, sym, ap, subst, ◌∙◌, rules}
 use Rattle.std.proofs.lemmas.List.Elements.{All-contains}
 use Rattle.std.proofs.lemmas.Slice.Eq.{bytes_eq-Decides}
 use Rattle.jm_bytes.proofs.Choice.{same_ok, same_some}
@@ -12,7 +12,7 @@ use Rattle.jm_bytes.specs.ByteOrder.{is_before}
 use Rattle.jm_modinfo.specs.Descriptions.{info_for}
 use Rattle.jm_relink.specs.declared.fault.RelinkFault.{RelinkFault}
 use Rattle.jm_relink.specs.declared.fault.RelinkFault.TheVariants as fault_of
-use Rattle.jm_relink.specs.Files.{file_name, info_entry, resources_of}
+use Rattle.jm_relink.specs.Files.{file_name, info_entry}
 use Rattle.jm_names.specs.ByName.{Named}
 use Rattle.jm_relink.specs.Modules.{AreFilesOf, HasInfo, IsRefusedIn, IsSeenIn, IsVisibleIn, ModulesOf, SeenModule, info_refusal, name_of}
 use Rattle.jm_relink.proofs.ModuleLaws.{Differ, one_content, resources_differ}
@@ -63,10 +63,7 @@ among release rs seen others differ one other s there =
 
 visible_once : (release : ℕ) (rs : List Named) (seen others : List SeenModule) → Differ rs → IsVisibleIn release rs seen
     → IsVisibleIn release rs others → seen ≡ others
-visible_once release rs seen others differ one other =
-    same_order (λ (s t : SeenModule). is_before (name_of s) (name_of t) ≡ true) (λ s t up down. one_way (name_of s) (name_of t) up
-    down) seen others one.rising other.rising
-    (among release rs seen others differ one other) (among release rs others seen differ other one)
+visible_once release rs seen others differ one other = search (rules, same_order, one_way, among)
 
 some_none : {X : Type 0} (x : X) (o : Option X) → o ≡ Some x → o ≡ None → ⊥
 some_none x (Some y) one other = cc
@@ -103,11 +100,7 @@ visible_free release rs seen e differ visible refused =
 pub modules_once : (release : ℕ) (b : List ℕ) (one other : Result (List SeenModule) RelinkFault) → ModulesOf release b one
     → ModulesOf release b other → one ≡ other
 unfolding ModulesOf
-modules_once release b (Ok seen) (Ok others) is too =
-    ap (λ xs. Ok xs) (visible_once release (resources_of b) seen others (resources_differ b) is too)
-modules_once release b (Ok seen) (Err f) is too =
-    absurd (visible_free release (resources_of b) seen f (resources_differ b) is too)
-modules_once release b (Err e) (Ok others) is too =
-    absurd (visible_free release (resources_of b) others e (resources_differ b) too is)
-modules_once release b (Err e) (Err f) is too =
-    ap (λ x. Err x) (refused_once release (resources_of b) e f (resources_differ b) is too)
+modules_once release b (Ok seen) (Ok others) is too = search (rules, resources_differ, visible_once)
+modules_once release b (Ok seen) (Err f) is too = search (rules, resources_differ, visible_free)
+modules_once release b (Err e) (Ok others) is too = search (rules, resources_differ, visible_free)
+modules_once release b (Err e) (Err f) is too = search (rules, resources_differ, refused_once)

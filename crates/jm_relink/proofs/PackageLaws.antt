@@ -1,11 +1,11 @@
 -- The class packages of the files of a module, from their paths.
-use Rattle.std.proofs.Common.{◌≡◌, inl, inr, ℕ, ◌+◌, ◌<◌, false, List, [], ◌∷◌, ◌++◌, take, length, get_or}
-use Rattle.std.proofs.Common.{map, Contains, Some, option_map, option_to_list, slice_get, refl, sym, ap, subst, ◌∙◌, append-nil}
+use Rattle.std.proofs.Common.{◌≡◌, inl, inr, ℕ, ◌+◌, ◌<◌, false, List, [], ◌∷◌, ◌++◌, take, length, get_or, rules}
+use Rattle.std.proofs.Common.{map, Contains, Some, option_map, option_to_list, slice_get, sym, ap, subst, ◌∙◌, append-nil}
 use Rattle.std.proofs.lemmas.List.{map_push, take_more}
 use Rattle.std.proofs.lemmas.List.Elements.{Contains-append_cases, Contains-append_left, Contains-append_right}
 use Rattle.std.proofs.lemmas.List.Elements.{filter_map-append}
 use Rattle.std.proofs.lemmas.Option.{get_or_from_slice_get, slice_get_within}
-use Rattle.std.specs.List.{cons_option, filter_map, list_any}
+use Rattle.std.specs.List.{filter_map, list_any}
 use Rattle.std.specs.declared.alloc.Global.{Global}
 use Rattle.std.specs.declared.vec.Vec.{Vec}
 use Rattle.jm_form.specs.ModuleFiles.{class_folder, class_package, named_package}
@@ -89,11 +89,8 @@ file_more b fs i f old new below is put so_far =
 
 all_same : (m : List ℕ) (fs : List Named) → list_any is_slash m ≡ false → filter_map class_package (map (λ f. f.0) fs)
     ≡ filter_map named_package (map (λ f. file_name m f.0) fs)
-all_same m [] whole = refl
-all_same m (f ∷ fs) whole =
-    ap (λ ps. cons_option (class_package f.0) ps) (all_same m fs whole)
-    ∙ ap (λ path. cons_option (class_package path) (filter_map named_package (map (λ (g : Named). file_name m g.0) fs)))
-    (sym (path_of_file m f.0 whole))
+all_same m [] whole = search (rules)
+all_same m (f ∷ fs) whole = search (rules, path_of_file, (all_same m fs whole))
 
 pub packages_are : (m : List ℕ) (fs : List Named) → list_any is_slash m ≡ false → packages_of fs
     ≡ trees.class_packages (map (λ f. file_name m f.0) fs)

@@ -1,13 +1,13 @@
 -- Files of modules in the order of the names of their entries: those of one module stand side by side, and rise by path.
-use Rattle.std.proofs.Common.{◌≡◌, ◌≢◌, ◌<◌, ℕ, Bool, true, false, cond, List, [], ◌∷◌, ◌++◌, AllPairs, Contains}
-use Rattle.std.proofs.Common.{map, Some, refl, sym, ap, ap₂, subst, ◌∙◌}
+use Rattle.std.proofs.Common.{◌≡◌, ◌≢◌, ◌<◌, ℕ, Bool, true, false, cond, List, [], ◌∷◌, ◌++◌, AllPairs, Contains, rules}
+use Rattle.std.proofs.Common.{map, Some, refl, sym, ap, subst, ◌∙◌}
 use Rattle.std.proofs.lemmas.Bool.{false≢true, false_from_ne_true}
 use Rattle.std.proofs.lemmas.List.{append_cancel_right}
 use Rattle.std.proofs.lemmas.Slice.Eq.{bytes_eq-Decides}
 use Rattle.std.specs.Cmp.{ranks}
 use Rattle.std.specs.Cmp.Lexicographic.{slice_cmp}
 use Rattle.std.specs.List.{filter_map, list_any}
-use Rattle.std.specs.Ordering.{MatchOrdering, is_lt, nat_cmp, ordering_then}
+use Rattle.std.specs.Ordering.{MatchOrdering, nat_cmp, ordering_then}
 use Rattle.std.specs.Str.{bytes_eq}
 use Rattle.std.specs.declared.cmp.Ordering.{Ordering}
 use Rattle.std.specs.declared.cmp.Ordering.TheVariants.{Less, Equal, Greater}
@@ -17,7 +17,7 @@ use Rattle.jm_bytes.proofs.Pairs.{pairs_filter_map, pairs_map, pairs_weaker}
 use Rattle.jm_bytes.specs.ByteOrder.{is_before}
 use Rattle.jm_names.specs.ByName.{Named, RisesByName}
 use Rattle.jm_names.specs.Names.{is_slash}
-use Rattle.jm_relink.specs.Files.{Filed, NeverFalls, file_name, located}
+use Rattle.jm_relink.specs.Files.{Filed, NeverFalls, located}
 use Rattle.jm_relink.specs.Groups.{Group, begun_as, groups, groups_from, ungrouped}
 use Rattle.jm_relink.proofs.GroupLaws.{Falls, groups_rise, groups_whole, second_decides}
 use Rattle.jm_relink.proofs.ListLaws.{pairs_each, pairs_unmap}
@@ -102,18 +102,10 @@ module _ (rs : List Named) (rises : RisesByName rs) where
   SlashedFalls e f = Falls (slashed e) (slashed f)
 
   stands : (r q : Named) → is_before r.0 q.0 ≡ true → (e f : Filed) → located r ≡ Some e → located q ≡ Some f → SlashedFalls e f
-  stands r q before e f one other =
-      let first = located_from r e one in
-      let second = located_from q f other in
-      let named : is_before (file_name e.0 e.1.0) (file_name f.0 f.1.0) ≡ true =
-      sym (ap₂ (λ (x y : Named). is_before x.0 y.0) first.1 second.1) ∙ before in
-      ap is_lt (sym (names_cmp f.0 e.0 f.1.0 e.1.0 second.0 first.0))
-      ∙ before_one_way (file_name e.0 e.1.0) (file_name f.0 f.1.0) named
+  stands r q before e f one other = search (rules, before_one_way, located_from, names_cmp)
 
   never_falls : NeverFalls (map slashed files)
-  never_falls =
-      pairs_map Falls slashed files
-      (pairs_filter_map (λ (r q : Named). is_before r.0 q.0 ≡ true) SlashedFalls located stands rs rises)
+  never_falls = search (rules, pairs_filter_map, pairs_map, stands)
 
   -- no module has two groups
   pub modules_apart : AllPairs (λ (g h : Group). g.0 ≢ h.0) (groups files)

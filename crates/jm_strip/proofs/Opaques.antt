@@ -5,19 +5,20 @@ use Rattle.jm_bytes.specs.declared.faults.Or.{Or}
 use Rattle.jm_class.specs.declared.class.ClassFault.{ClassFault}
 use Rattle.jm_class.specs.declared.class.ClassFault.TheVariants.{Short}
 use Rattle.jm_class.specs.Classes.{SlotData, OpaqueData, AttributeData, Opaque, opaque_text, attribute_text, counted_text}
-use Rattle.jm_class.specs.ComputedClass.{name_field, opaque_field, attribute_field}
+use Rattle.jm_class.specs.ClassLayout.{name_field, opaque_field, attribute_field}
+use Rattle.jm_class.specs.Layouts.{listed, reading}
 use Rattle.jm_class.specs.Readings.{Left, Outcome, Reading, value, continued, and_then, number, sized, counted, list_of}
 use Rattle.jm_class.specs.Views.{Gives}
 use Rattle.jm_bytes.proofs.SameOrder.{filter_mapped}
 use Rattle.std.proofs.lemmas.List.{length-map}
 use Rattle.jm_strip.specs.Walks.{shown}
-use Rattle.jm_strip.proofs.PutLists.{flat-map}
+use Rattle.std.proofs.lemmas.List.Folds.{flat_map-map}
 
 abbrev pub held : OpaqueData → AttributeData
 held a = record { name = a.name; body = Opaque a.bytes }
 
-pub opaque-attribute : (pool : List SlotData) (left : Left) → attribute_field pool false left ≡ shown held (opaque_field Short pool left)
-opaque-attribute pool left = named (name_field Short pool left)
+pub opaque-attribute : (pool : List SlotData) (left : Left) → reading Short (attribute_field pool false) left ≡ shown held (reading Short (opaque_field pool) left)
+opaque-attribute pool left = named (reading Short (name_field pool) left)
   where
     bytes_of : (name : ℕ) (outcome : Outcome ClassFault (List ℕ)) → continued (continued outcome (λ bytes. value (Opaque bytes)))
         (λ body. value (record { name = name; body = body }))
@@ -80,22 +81,22 @@ kept-text test xs =
     texts : (ys : List OpaqueData) → counted_text attribute_text (map held ys) ≡ counted_text opaque_text ys
     texts ys =
         let size = length-map ys held in
-        let words = flat-map attribute_text held ys in
+        let words = flat_map-map attribute_text held ys in
         rw (size, words) refl
 
 pub class-attributes : (pool : List SlotData) (test : ℕ → Bool) (old : List ℕ) (left : Left)
     → shown (λ xs. old ++ counted_text attribute_text (filter (λ (a : AttributeData). test a.name) xs))
-    (list_of Short (attribute_field pool false) left)
+    (reading Short (listed (attribute_field pool false)) left)
     ≡ shown (λ xs. old ++ counted_text opaque_text (filter (λ (a : OpaqueData). test a.name) xs))
-    (list_of Short (opaque_field Short pool) left)
+    (reading Short (listed (opaque_field pool)) left)
 class-attributes pool test old left =
-    let same = list-shown Short held (opaque_field Short pool) (attribute_field pool false) (opaque-attribute pool) left in
+    let same = list-shown Short held (reading Short (opaque_field pool)) (reading Short (attribute_field pool false)) (opaque-attribute pool) left in
     rw same
     (shown-twice (map held) (λ xs. old ++ counted_text attribute_text (filter (λ (a : AttributeData). test a.name) xs))
-    (list_of Short (opaque_field Short pool) left)
+    (reading Short (listed (opaque_field pool)) left)
     ∙ shown-same (λ xs. old ++ counted_text attribute_text (filter (λ (a : AttributeData). test a.name) (map held xs))) (λ xs. old
     ++ counted_text opaque_text (filter (λ (a : OpaqueData). test a.name) xs)) (λ xs. ap (λ t. old ++ t) (kept-text test xs))
-    (list_of Short (opaque_field Short pool) left))
+    (reading Short (listed (opaque_field pool)) left))
 
 -- what was put for the same value, shown in other words
 pub gives_same : {T B : Type 0} (data_of : T → B) (one other : Outcome ClassFault B) (result : Result T (Or ClassFault)) (left : Left)

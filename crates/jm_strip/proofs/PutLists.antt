@@ -2,6 +2,7 @@
 use Rattle.std.proofs.Common.{◌≡◌, ℕ, zero, suc, ◌+◌, ◌-◌, ◌<◌, ◌≤◌, List, [], ◌∷◌, ◌++◌, length, map, Ok}
 use Rattle.std.proofs.Common.{Err, refl, sym, ap, ◌∙◌, arith, append_assoc}
 use Rattle.std.proofs.lemmas.List.{append-nil, length-map}
+use Rattle.std.proofs.lemmas.List.Folds.{flat_map-map}
 use Rattle.std.specs.Int.{w16}
 use Rattle.std.specs.List.{flat_map}
 use Rattle.jm_class.specs.Classes.{u2, counted_text}
@@ -13,10 +14,6 @@ use Rattle.jm_strip.proofs.Shown.{saw, stopped, shown-next, shown-stop}
 -- a text with those of a list that are still to come
 abbrev pub with_texts : {A : Type 0} → (A → List ℕ) → List ℕ → List A → List ℕ
 with_texts words text xs = text ++ flat_map words xs
-
-pub flat-map : {A B : Type 0} (words : B → List ℕ) (f : A → B) (xs : List A) → flat_map words (map f xs) ≡ flat_map (λ a. words (f a)) xs
-flat-map words f [] = refl
-flat-map words f (x ∷ xs) = ap (λ t. words (f x) ++ t) (flat-map words f xs)
 
 pub counted-length : {F A : Type 0} (reading : Reading F A) (count : ℕ) (left next : Left) (xs : List A)
     → counted count reading left ≡ Ok (xs, next) → length xs ≡ count
@@ -63,7 +60,7 @@ module _ {F A B : Type 0} (short : ℕ → F) (reading : Reading F A) (text : B 
       put : (xs : List A) → length xs ≡ count → opened ++ flat_map (λ a. text (f a)) xs ≡ new → old ++ counted_text text (map f xs) ≡ new
       put xs size same =
           let end = append-nil (flat_map text (map f xs)) in
-          let words = flat-map text f xs in
+          let words = flat_map-map text f xs in
           let mapped : length (map f xs) ≡ count = length-map xs f ∙ size in
           rw (end, words, mapped) (sym (append_assoc old (u2 count) (flat_map (λ a. text (f a)) xs))
           ∙ ap (λ t. t ++ flat_map (λ a. text (f a)) xs) (sym begun) ∙ same)

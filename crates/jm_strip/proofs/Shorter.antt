@@ -1,17 +1,16 @@
 -- A Code isn't longer without its debug information.
-use Rattle.std.proofs.Common.{◌≡◌, ℕ, ◌+◌, ◌-◌, ◌≤◌, Bool, true, false, List, inl, inr, ◌⊎◌, [], ◌∷◌, ◌++◌}
-use Rattle.std.proofs.Common.{length, filter, take, drop, Ok, Err, refl, sym, ap, ◌∙◌, arith, length-append}
-use Rattle.std.proofs.lemmas.Bool.{leb-true}
-use Rattle.std.proofs.lemmas.List.{append-nil, length-take-le}
+use Rattle.std.proofs.Common.{◌≡◌, ℕ, ◌+◌, ◌-◌, ◌≤◌, Bool, true, false, List, [], ◌∷◌, ◌++◌}
+use Rattle.std.proofs.Common.{length, filter, take, drop, Ok, refl, sym, ap, ◌∙◌, arith, length-append}
+use Rattle.std.proofs.lemmas.List.{append-nil}
 use Rattle.std.specs.List.{flat_map}
-use Rattle.std.specs.Prelude.{nat_le}
-use Rattle.jm_bytes.proofs.Choice.{chosen}
 use Rattle.jm_class.specs.declared.class.ClassFault.{ClassFault}
 use Rattle.jm_class.specs.Classes.{SlotData, OpaqueData, CodeData, u4, sized_text, opaque_text, code_text}
-use Rattle.jm_class.specs.ComputedClass.{code_fields}
-use Rattle.jm_class.specs.Readings.{Left, behind, Outcome, part, inner_part, value}
+use Rattle.jm_class.specs.ClassLayout.{code_fields}
+use Rattle.jm_class.specs.Layouts.{reading}
+use Rattle.jm_class.specs.Readings.{Left, part, inner_part, value}
 use Rattle.jm_class.proofs.FieldLaws.{code_fields-lawful}
-use Rattle.jm_class.proofs.ReadingLaws.{IsBytes, passed, same_value}
+use Rattle.jm_class.proofs.ReadingLaws.{IsBytes, passed, same_value, part-back}
+use Rattle.jm_class.proofs.TextLaws.{read-back}
 use Rattle.jm_strip.specs.Strip.{stays, strip_code}
 use Rattle.jm_strip.proofs.Kept.{patched}
 
@@ -46,28 +45,17 @@ pub inner-length : {F : Type 0} (short : ℕ → F) (n : ℕ) (left inner next :
     → length inner.bytes ≡ n
 inner-length {F} short n left inner next e =
     let cut = passed (part short n left) (λ bytes. value (record { place = left.place; bytes = bytes })) inner next e in
-    let same : cut.first ≡ inner.bytes = ap (λ (l : Left). l.bytes) (same_value {F = F} (record {
-      place = left.place;
-      bytes =
-          cut.first;
-    }) inner cut.middle next cut.rest) in
-    ap length (sym same) ∙ sized cut.first cut.middle (chosen (nat_le n (length left.bytes)) (Ok (take n left.bytes, behind n left))
-    (Err (short left.place)) (Ok (cut.first, cut.middle)) cut.is)
-  where
-    sized : (bytes : List ℕ) (middle : Left) → ((nat_le n (length left.bytes) ≡ true) × ◌≡◌ {A = Outcome F (List ℕ)}
-        (Ok (take n left.bytes, behind n left)) (Ok (bytes, middle))) ⊎ ((nat_le n (length left.bytes) ≡ false)
-        × ◌≡◌ {A = Outcome F (List ℕ)} (Err (short left.place)) (Ok (bytes, middle))) → length bytes ≡ n
-    sized bytes middle (inl holds) = ap length (sym (same_value {F = F} (take n left.bytes) bytes (behind n left) middle holds.1))
-        ∙ length-take-le n left.bytes (leb-true n (length left.bytes) holds.0)
-    sized bytes middle (inr fails) = let e = fails.1 in cc
+    let same : cut.first ≡ inner.bytes = ap (λ (l : Left). l.bytes) (same_value {F = F}
+    (record { place = left.place; bytes = cut.first }) inner cut.middle next cut.rest) in
+    ap length (sym same) ∙ (part-back short n left cut.middle cut.first cut.is).0
 
 -- what was put for a Code that takes its part whole fits in four bytes
 pub code-fits : (short : ℕ → ClassFault) (pool : List SlotData) (inner end : Left) (code : CodeData) (size : ℕ)
-    → IsBytes inner.bytes → code_fields short pool inner ≡ Ok (code, end) → length inner.bytes ≡ size
+    → IsBytes inner.bytes → reading short (code_fields pool) inner ≡ Ok (code, end) → length inner.bytes ≡ size
     → length (code_text (strip_code pool code)) ≤ size
 code-fits short pool inner end code size bytes e sized =
-    let took = (code_fields-lawful short pool).back inner end code bytes e in
-    let whole = ap length took.bytes in
+    let took = read-back short (code_fields pool) code_text _ (code_fields-lawful pool) inner end code bytes e in
+    let whole = ap length took.1 in
     let parts = length-append (code_text code) end.bytes in
     let fewer = code-shorter pool code in
     omega (arith, whole, parts, fewer, sized)

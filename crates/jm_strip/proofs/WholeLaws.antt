@@ -5,12 +5,13 @@ use Rattle.jm_bytes.specs.Results.{followed}
 use Rattle.jm_bytes.specs.declared.faults.Or.{Or}
 use Rattle.jm_bytes.specs.declared.faults.Or.TheVariants.{Fault, Memory}
 use Rattle.jm_class.specs.declared.class.ClassFault.{ClassFault}
-use Rattle.jm_class.specs.declared.class.ClassFault.TheVariants.{Rest}
+use Rattle.jm_class.specs.declared.class.ClassFault.TheVariants.{Rest, Short}
 use Rattle.jm_class.specs.Classes.{ClassData, class_text, ReadsAs}
-use Rattle.jm_class.specs.ComputedClass.{class_fields, class_of, fault_of, value_of}
+use Rattle.jm_class.specs.ClassLayout.{class_fields, class_of}
+use Rattle.jm_class.specs.Layouts.{reading, fault_of, value_of}
 use Rattle.jm_class.specs.Readings.{Left}
 use Rattle.jm_class.specs.Releases.{newest_major, release_fault, class_for}
-use Rattle.jm_class.proofs.ComputedClassLaws.{reads_once}
+use Rattle.jm_class.proofs.ClassLaws.{reads_once}
 use Rattle.jm_class.proofs.ReleaseLaws.{class_for-reads}
 use Rattle.jm_class.proofs.ReadingLaws.{IsBytes}
 use Rattle.jm_class.proofs.WholeReadings.{ended-all}
@@ -21,12 +22,12 @@ use Rattle.jm_strip.proofs.StripLaws.{strip-class}
 
 -- no byte is left behind the class
 pub all_read : (bytes text : List ℕ) (next : Left) (n : ℕ) → shown (λ c. class_text (strip c))
-    (class_fields (record { place = 0; bytes = bytes })) ≡ Ok (text, next) → n ≡ length next.bytes → n ≡ 0 → (c : ClassData)
+    (reading Short class_fields (record { place = 0; bytes = bytes })) ≡ Ok (text, next) → n ≡ length next.bytes → n ≡ 0 → (c : ClassData)
     × (class_of bytes ≡ Ok c) × (text ≡ class_text (strip c))
 all_read bytes text next n e size none =
-    let got = saw (λ c. class_text (strip c)) (class_fields (record { place = 0; bytes = bytes })) text next e in (
+    let got = saw (λ c. class_text (strip c)) (reading Short class_fields (record { place = 0; bytes = bytes })) text next e in (
       got.first,
-      ap value_of (ended-all Rest class_fields (record { place = 0; bytes = bytes }) next got.first n got.is size none),
+      ap value_of (ended-all Rest (reading Short class_fields) (record { place = 0; bytes = bytes }) next got.first n got.is size none),
       sym got.same,
     )
 

@@ -3,12 +3,14 @@
 use Rattle.std.specs.Prelude.{Bool, true, false, List, [], Option, Some, None, Ok, Err}
 use Rattle.std.specs.Prelude.{if◌then◌else◌, ℕ}
 use Rattle.jm_class.specs.Classes.{SlotData, utf8_of, is_code_name}
-use Rattle.jm_class.specs.ComputedClass.{pool_field}
+use Rattle.jm_class.specs.ClassLayout.{pool_field}
+use Rattle.jm_class.specs.Layouts.{reading}
 use Rattle.jm_class.specs.Readings.{Outcome}
 use Rattle.jm_class.specs.declared.class.ClassFault.{ClassFault}
 use Rattle.jm_strip.specs.declared.kind.AttributeKind.{AttributeKind}
 use Rattle.jm_strip.specs.declared.kind.AttributeKind.TheVariants.{Other, Text, Code}
 use Rattle.jm_strip.specs.declared.kind.AttributeKind.TheVariants.{OfCode, OfClass}
+use Rattle.jm_class.specs.declared.class.ClassFault.TheVariants.{Short}
 use Rattle.jm_strip.specs.Strip.{debug_names, is_among}
 
 -- the kind of a text: `Code`, a debug attribute of a Code or of the class, or any other
@@ -51,4 +53,4 @@ slots_in (Err fault) = []
 
 -- the constants that the bytes at a place begin with
 abbrev pub pool_at : ℕ → List ℕ → List SlotData
-pool_at place bytes = slots_in (pool_field (record { place = place; bytes = bytes }))
+pool_at place bytes = slots_in (reading Short pool_field (record { place = place; bytes = bytes }))

@@ -5,7 +5,7 @@ use Rattle.jm_bytes.specs.declared.faults.Or.{Or}
 use Rattle.jm_bytes.specs.declared.faults.Or.TheVariants.{Fault, Memory}
 use Rattle.jm_class.specs.declared.class.ClassFault.{ClassFault}
 use Rattle.jm_class.specs.Classes.{ClassData, class_text}
-use Rattle.jm_class.specs.ComputedClass.{class_of}
+use Rattle.jm_class.specs.ClassLayout.{class_of}
 use Rattle.jm_class.specs.Readings.{Left, Outcome}
 use Rattle.jm_class.specs.Views.{Gives}
 use Rattle.jm_strip.specs.Strip.{strip}

@@ -1,8 +1,10 @@
 ghost use Rattle.std.specs.Prelude.{◌<◌, ◌^◌, All};
 ghost use Rattle.jm_class.specs.Classes.{code_text, sized_text};
-ghost use Rattle.jm_class.specs.ComputedClass.{code_fields, code_field};
+ghost use Rattle.jm_class.specs.ClassLayout.{code_fields, code_field};
+ghost use Rattle.jm_class.specs.Layouts.{reading};
 ghost use Rattle.jm_class.specs.Views.{fault_at};
 ghost use Rattle.jm_strip.specs.Strip.{strip_code};
+ghost use Rattle.jm_class.specs.declared.class.ClassFault.TheVariants.{Short};
 ghost use Rattle.jm_strip.specs.Walks.{Puts};
 
 use crate::copies::{copy_rows, copy_sized, copy16};
@@ -22,7 +24,7 @@ fn strip_parts(
     missing: Missing,
 ) -> Result<(), Or<ClassFault>>
     ensures { Puts (λ c. code_text (strip_code pool.now c))
-        (code_fields (fault_at missing) pool.now cursor.old)
+        (reading (fault_at missing) (code_fields pool.now) cursor.old)
         result cursor.new text.old.items text.new.items }
 {
     copy16(cursor, text, missing)?;
@@ -46,7 +48,7 @@ pub fn strip_code(
     pool: &Pool,
 ) -> Result<(), Or<ClassFault>>
     ensures { Puts (λ c. sized_text (code_text (strip_code pool.now c)))
-        (code_field pool.now cursor.old)
+        (reading Short (code_field pool.now) cursor.old)
         result cursor.new text.old.items text.new.items }
 {
     let wrong = ClassFault::CodeLength(cursor.place());

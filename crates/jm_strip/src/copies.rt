@@ -1,6 +1,7 @@
 ghost use Rattle.std.specs.Int.{w16};
 ghost use Rattle.jm_class.specs.Classes.{u2, sized_text, rows_text};
-ghost use Rattle.jm_class.specs.ComputedClass.{name_field, rows_field};
+ghost use Rattle.jm_class.specs.ClassLayout.{name_field, rows_field};
+ghost use Rattle.jm_class.specs.Layouts.{reading};
 ghost use Rattle.jm_class.specs.Readings.{number, sized};
 ghost use Rattle.jm_class.specs.Views.{Gives, fault_at};
 ghost use Rattle.jm_strip.specs.Walks.{Puts};
@@ -13,7 +14,7 @@ use jm_classout::{put16, put32};
 
 /// The name of an attribute: the number of a Utf8.
 pub fn name(cursor: &mut Cursor, pool: &Pool, missing: Missing) -> Result<u16, Or<ClassFault>>
-    ensures { Gives (λ n. n) (name_field (fault_at missing) pool.now cursor.old)
+    ensures { Gives (λ n. n) (reading (fault_at missing) (name_field pool.now) cursor.old)
         result cursor.new }
 {
     let at = cursor.place();
@@ -60,7 +61,7 @@ pub fn copy_rows(
     text: &mut Vec<u8>,
     missing: Missing,
 ) -> Result<(), Or<ClassFault>>
-    ensures { Puts rows_text (rows_field (fault_at missing) cursor.old)
+    ensures { Puts rows_text (reading (fault_at missing) rows_field cursor.old)
         result cursor.new text.old.items text.new.items }
 {
     let count = number16(cursor, missing)?;

@@ -1,6 +1,7 @@
 ghost use Rattle.std.specs.Prelude.{◌≤◌, ◌∷◌, [], filter, IfOk};
 ghost use Rattle.jm_class.specs.Classes.{opaque_text, counted_text};
-ghost use Rattle.jm_class.specs.ComputedClass.{opaque_field};
+ghost use Rattle.jm_class.specs.ClassLayout.{opaque_field};
+ghost use Rattle.jm_class.specs.Layouts.{listed, reading};
 ghost use Rattle.jm_class.specs.Readings.{list_of};
 ghost use Rattle.jm_class.specs.Views.{Gives, fault_at};
 ghost use Rattle.jm_strip.specs.Strip.{stays};
@@ -26,7 +27,7 @@ fn keep(
     ensures kept { Gives (λ n. (text.new.items, n))
         (shown (λ a. filtered opaque_text
         (λ a. stays in_code pool.now a.name) text.old.items (a ∷ []))
-        (opaque_field (fault_at missing) pool.now cursor.old))
+        (reading (fault_at missing) (opaque_field pool.now) cursor.old))
         result cursor.new }
 {
     let name = name(cursor, pool, missing)?;
@@ -51,7 +52,7 @@ pub fn keep_attributes(
 ) -> Result<(), Or<ClassFault>>
     ensures { Puts
         (λ xs. counted_text opaque_text (filter (λ a. stays in_code pool.now a.name) xs))
-        (list_of (fault_at missing) (opaque_field (fault_at missing) pool.now) cursor.old)
+        (reading (fault_at missing) (listed (opaque_field pool.now)) cursor.old)
         result cursor.new text.old.items text.new.items }
 {
     let count = number16(cursor, missing)?;

@@ -1,7 +1,8 @@
 ghost use Rattle.std.specs.Prelude.{true, map};
 ghost use Rattle.jm_class.specs.declared.class.ClassFault.TheVariants.{Short};
 ghost use Rattle.jm_class.specs.Classes.{attribute_text, member_text, counted_text};
-ghost use Rattle.jm_class.specs.ComputedClass.{attribute_field, member_field};
+ghost use Rattle.jm_class.specs.ClassLayout.{attribute_field, member_field};
+ghost use Rattle.jm_class.specs.Layouts.{listed, reading};
 ghost use Rattle.jm_class.specs.Readings.{list_of};
 ghost use Rattle.jm_strip.specs.Strip.{strip_attribute, strip_method};
 ghost use Rattle.jm_strip.specs.Walks.{Puts};
@@ -21,7 +22,7 @@ fn strip_attribute(
     pool: &Pool,
 ) -> Result<(), Or<ClassFault>>
     ensures { Puts (λ a. attribute_text (strip_attribute pool.now a))
-        (attribute_field pool.now true cursor.old)
+        (reading Short (attribute_field pool.now true) cursor.old)
         result cursor.new text.old.items text.new.items }
 {
     let name = name(cursor, pool, Missing::Here)?;
@@ -41,7 +42,7 @@ fn strip_attributes(
     pool: &Pool,
 ) -> Result<(), Or<ClassFault>>
     ensures { Puts (λ xs. counted_text attribute_text (map (strip_attribute pool.now) xs))
-        (list_of Short (attribute_field pool.now true) cursor.old)
+        (reading Short (listed (attribute_field pool.now true)) cursor.old)
         result cursor.new text.old.items text.new.items }
 {
     let count = number16(cursor, Missing::Here)?;
@@ -54,7 +55,7 @@ fn strip_attributes(
 
 fn strip_method(cursor: &mut Cursor, text: &mut Vec<u8>, pool: &Pool) -> Result<(), Or<ClassFault>>
     ensures { Puts (λ m. member_text (strip_method pool.now m))
-        (member_field pool.now true cursor.old)
+        (reading Short (member_field pool.now true) cursor.old)
         result cursor.new text.old.items text.new.items }
 {
     copy16(cursor, text, Missing::Here)?;
@@ -71,7 +72,7 @@ pub fn strip_methods(
     pool: &Pool,
 ) -> Result<(), Or<ClassFault>>
     ensures { Puts (λ xs. counted_text member_text (map (strip_method pool.now) xs))
-        (list_of Short (member_field pool.now true) cursor.old)
+        (reading Short (listed (member_field pool.now true)) cursor.old)
         result cursor.new text.old.items text.new.items }
 {
     let count = number16(cursor, Missing::Here)?;

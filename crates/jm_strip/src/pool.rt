@@ -1,9 +1,11 @@
 ghost use Rattle.std.specs.Prelude.{◌≡◌, false, is_some, map};
 ghost use Rattle.jm_class.specs.Classes.{utf8_at, is_code_name};
-ghost use Rattle.jm_class.specs.ComputedClass.{slots, pool_field};
+ghost use Rattle.jm_class.specs.ClassLayout.{slots, pool_field};
+ghost use Rattle.jm_class.specs.Layouts.{reading};
 ghost use Rattle.jm_class.specs.Views.{Gives};
 ghost use Rattle.jm_strip.specs.Kinds.{kind_of, kind_of_name};
 ghost use Rattle.jm_strip.specs.Strip.{stays};
+ghost use Rattle.jm_class.specs.declared.class.ClassFault.TheVariants.{Short};
 ghost use Rattle.jm_strip.specs.Walks.{shown};
 
 use crate::kind::{AttributeKind, kind_of};
@@ -78,7 +80,8 @@ fn kinds(
     cursor: &mut Cursor,
     count: u16,
 ) -> Result<Vec<AttributeKind>, Or<ClassFault>>
-    ensures { Gives (λ kinds. kinds.items) (shown (map kind_of) (slots count false cursor.old))
+    ensures { Gives (λ kinds. kinds.items)
+        (shown (map kind_of) (reading Short (slots count false) cursor.old))
         result cursor.new }
 {
     let mut kinds = Vec::with_capacity(alloc, usize::from(count).min(cursor.len() / LEAST))?;
@@ -96,7 +99,7 @@ fn kinds(
 
 /// The constant pool.
 pub fn read_pool<'a>(alloc: Global, cursor: &mut Cursor<'a>) -> Result<Pool<'a>, Or<ClassFault>>
-    ensures { Gives (λ pool. pool) (pool_field cursor.old) result cursor.new }
+    ensures { Gives (λ pool. pool) (reading Short pool_field cursor.old) result cursor.new }
 {
     let place = cursor.place();
     let bytes = cursor.rest();

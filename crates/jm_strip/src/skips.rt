@@ -1,6 +1,7 @@
 ghost use Rattle.jm_class.specs.declared.class.ClassFault.TheVariants.{Short};
 ghost use Rattle.std.specs.Prelude.{false};
-ghost use Rattle.jm_class.specs.ComputedClass.{short_number, attribute_field, member_field};
+ghost use Rattle.jm_class.specs.ClassLayout.{attribute_field, member_field};
+ghost use Rattle.jm_class.specs.Layouts.{Number, U2, listed, reading};
 ghost use Rattle.jm_class.specs.Readings.{list_of};
 ghost use Rattle.jm_strip.specs.Walks.{Skips};
 
@@ -12,7 +13,7 @@ use jm_class::{ClassFault, Cursor};
 
 /// The interfaces.
 pub fn skip_interfaces(cursor: &mut Cursor) -> Result<(), Or<ClassFault>>
-    ensures { Skips (list_of Short short_number cursor.old) result cursor.new }
+    ensures { Skips (reading Short (listed (Number U2)) cursor.old) result cursor.new }
 {
     let count = number16(cursor, Missing::Here)?;
     for _k in 0..count {
@@ -23,7 +24,7 @@ pub fn skip_interfaces(cursor: &mut Cursor) -> Result<(), Or<ClassFault>>
 
 /// The attributes of a field.
 fn skip_attributes(cursor: &mut Cursor, pool: &Pool) -> Result<(), Or<ClassFault>>
-    ensures { Skips (list_of Short (attribute_field pool.now false) cursor.old)
+    ensures { Skips (reading Short (listed (attribute_field pool.now false)) cursor.old)
         result cursor.new }
 {
     let count = number16(cursor, Missing::Here)?;
@@ -36,7 +37,8 @@ fn skip_attributes(cursor: &mut Cursor, pool: &Pool) -> Result<(), Or<ClassFault
 
 /// The fields.
 pub fn skip_fields(cursor: &mut Cursor, pool: &Pool) -> Result<(), Or<ClassFault>>
-    ensures { Skips (list_of Short (member_field pool.now false) cursor.old) result cursor.new }
+    ensures { Skips (reading Short (listed (member_field pool.now false)) cursor.old)
+        result cursor.new }
 {
     let count = number16(cursor, Missing::Here)?;
     for _k in 0..count {

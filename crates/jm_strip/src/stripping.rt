@@ -1,7 +1,8 @@
 ghost use Rattle.std.specs.Prelude.{◌≡◌, false, filter};
 ghost use Rattle.jm_class.specs.declared.class.ClassFault.TheVariants.{Short};
 ghost use Rattle.jm_class.specs.Classes.{attribute_text, counted_text, class_text};
-ghost use Rattle.jm_class.specs.ComputedClass.{attribute_field, class_fields};
+ghost use Rattle.jm_class.specs.ClassLayout.{attribute_field, class_fields};
+ghost use Rattle.jm_class.specs.Layouts.{listed, reading};
 ghost use Rattle.jm_class.specs.Readings.{list_of};
 ghost use Rattle.jm_class.specs.Views.{Gives};
 ghost use Rattle.jm_strip.specs.Strip.{stays, strip, StripsFor};
@@ -24,7 +25,7 @@ fn strip_attributes(
 ) -> Result<(), Or<ClassFault>>
     ensures { Puts
         (λ xs. counted_text attribute_text (filter (λ a. stays false pool.now a.name) xs))
-        (list_of Short (attribute_field pool.now false) cursor.old)
+        (reading Short (listed (attribute_field pool.now false)) cursor.old)
         result cursor.new text.old.items text.new.items }
 {
     keep_attributes(cursor, text, pool, Missing::Here, false)
@@ -34,7 +35,7 @@ fn strip_attributes(
 fn strip_class(alloc: Global, bytes: &[u8], cursor: &mut Cursor) -> Result<Vec<u8>, Or<ClassFault>>
     requires { cursor.old ≡ record { place = 0; bytes = bytes.now } }
     ensures { Gives (λ text. text.items)
-        (shown (λ c. class_text (strip c)) (class_fields cursor.old))
+        (shown (λ c. class_text (strip c)) (reading Short class_fields cursor.old))
         result cursor.new }
 {
     let _magic = magic(cursor)?;

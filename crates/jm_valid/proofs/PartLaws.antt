@@ -128,9 +128,3 @@ parts_all s parts i all put end =
     put.contents)
 
 -- Evaluated
-
-part_whole : part_slots 3 0 ≡ 0 ∷ 1 ∷ 2 ∷ []
-part_whole = refl
-
-part_last : part_slots 4098 4096 ≡ 4096 ∷ 4097 ∷ []
-part_last = refl

@@ -1,4 +1,4 @@
-use Rattle.std.proofs.Common.{◌+◌, ℕ, List, map, take}
+use Rattle.std.proofs.Common.{◌+◌, ℕ, List, map, take, rules}
 use Rattle.std.proofs.lemmas.List.{map_more, take_all}
 use Rattle.jm_modinfo.specs.declared.descriptor.Provides.{Provides}
 use Rattle.jm_closure.proofs.NameLaws.{found_at}
@@ -11,15 +11,7 @@ abbrev service_of : Provides → List ℕ
 service_of provided = provided.service
 
 pub loop-provided-init : goal.loop-provided-init
-loop-provided-init c =
-    let found = c.args.found.now in
-    let Uses = Below (c.args.place + 1) (UsesService found) in
-    let Provided = Below c.args.place (ProvidesService found) in
-    record {
-      drawn = provides_begin found Uses Provided c.args.services.now c.args.graph.now c.args.place
-          c.requires.drawn;
-      last = tt;
-    }
+loop-provided-init c = search (rules, provides_begin)
 
 pub loop-provided-preserved : goal.loop-provided-preserved
 loop-provided-preserved c =

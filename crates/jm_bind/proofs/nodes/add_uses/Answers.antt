@@ -1,4 +1,4 @@
-use Rattle.std.proofs.Common.{take}
+use Rattle.std.proofs.Common.{take, rules}
 use Rattle.std.proofs.lemmas.List.{take_all, take_more}
 use Rattle.jm_closure.proofs.NameLaws.{found_at}
 use Rattle.jm_bind.specs.Binding.{ProvidesService, UsesService}
@@ -7,14 +7,7 @@ use Rattle.jm_bind.proofs.NodeLaws.{drawn_has, uses_begin, uses_end, uses_more, 
 use Rattle.jm_bind.proofs.nodes.add_uses.Goals as goal
 
 pub loop-service-init : goal.loop-service-init
-loop-service-init c =
-    let found = c.args.found.now in
-    let Uses = Below c.args.place (UsesService found) in
-    let Provides = Below c.args.place (ProvidesService found) in
-    record {
-      drawn = uses_begin found Uses Provides c.args.services.now c.args.graph.now c.args.place c.requires.drawn;
-      last = tt;
-    }
+loop-service-init c = search (rules, uses_begin)
 
 pub loop-service-preserved : goal.loop-service-preserved
 loop-service-preserved c =

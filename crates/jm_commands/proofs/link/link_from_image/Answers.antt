@@ -9,38 +9,40 @@ use Rattle.jm_commands.proofs.link.link_from_image.Goals as goal
 
 pub link_counted-requires-clause-there : goal.link_counted-requires-clause-there
 link_counted-requires-clause-there g c lifetimes outlives =
-    let read = c.in_ok-front.ensures in
-    index_there c.args.path.now (shelf_at g.S.Shelf c.args.shelf.now) (shelf_at g.S.Shelf c.at.new.shelf) read.files c.in_ok-front.front
-    read.opens
+    let read = c.in_ok-image.ensures in
+    rw (read.files, read.path) (index_there _ c.args.path.now c.in_ok-image.image.front read.opens)
 
-pub returns-in_err-front-clause-comes : goal.returns-in_err-front-clause-comes
-returns-in_err-front-clause-comes g c source =
+pub returns-in_err-image-clause-comes : goal.returns-in_err-image-clause-comes
+returns-in_err-image-clause-comes g c source =
     let is = from_stop c.from_residual.result _ c.from_residual.ensures.1 in
-    let read = c.in_err-front.ensures in
+    let read = c.in_err-image.ensures in
     rw is (unopened (ImageLinkComesTo link_text c.args.task.now) c.args.path.now (shelf_at g.S.Shelf c.args.shelf.now)
     (shelf_at g.S.Shelf c.at.new.shelf) read.files source _ _ read.opens (λ failed. read.faults.rose (rw failed refl)))
 
 pub returns-clause-comes : goal.returns-clause-comes
 returns-clause-comes g c source =
-    let read = c.in_ok-front.ensures in
+    let read = c.in_ok-image.ensures in
     rw c.stop_of_link.ensures (filed_stopped link_text c.args.task.now c.args.path.now _ (shelf_at g.S.Shelf c.at.new.shelf)
-    (shelf_at g.S.Shelf c.link_counted.new.shelf) source _ _ read.files (read.faults.kept refl) c.in_ok-front.front read.opens _ _ _
-    c.in-Err.ensures refl)
+    (shelf_at g.S.Shelf c.link_counted.new.shelf) source _ _ read.files (read.faults.kept refl) c.in_ok-image.image.front read.opens _ _ _
+    (rw read.path at c.in-Err.ensures) refl)
 
 pub returns-in-Ok-clause-comes : goal.returns-in-Ok-clause-comes
 returns-in-Ok-clause-comes g c source =
-    let read = c.in_ok-front.ensures in
+    let read = c.in_ok-image.ensures in
     filed_put link_text c.args.task.now c.args.path.now _ (shelf_at g.S.Shelf c.at.new.shelf) (shelf_at g.S.Shelf c.link_counted.new.shelf)
-    source _ _ read.files (read.faults.kept refl) c.in_ok-front.front read.opens _ _ _ _ c.in-Ok.ensures c.put_summary.ensures
+    source _ _ read.files (read.faults.kept refl) c.in_ok-image.image.front read.opens _ _ _ _ (rw read.path at c.in-Ok.ensures)
+    c.put_summary.ensures
 
 pub returns-clause-takes : goal.returns-clause-takes
 returns-clause-takes g c =
-    let read = c.in_ok-front.ensures in
+    let read = c.in_ok-image.ensures in
     takes_filed _ c.args.path.now _ (shelf_at g.S.Shelf c.args.shelf.now) (shelf_at g.S.Shelf c.at.new.shelf)
-    (shelf_at g.S.Shelf c.link_counted.new.shelf) c.in_ok-front.front _ _ _ _ read.files read.opens c.in-Err.ensures read.taken
+    (shelf_at g.S.Shelf c.link_counted.new.shelf) c.in_ok-image.image.front _ _ _ _ read.files read.opens
+    (rw read.path at c.in-Err.ensures) read.taken
 
 pub returns-in-Ok-clause-takes : goal.returns-in-Ok-clause-takes
 returns-in-Ok-clause-takes g c =
-    let read = c.in_ok-front.ensures in
+    let read = c.in_ok-image.ensures in
     takes_filed _ c.args.path.now _ (shelf_at g.S.Shelf c.args.shelf.now) (shelf_at g.S.Shelf c.at.new.shelf)
-    (shelf_at g.S.Shelf c.link_counted.new.shelf) c.in_ok-front.front _ _ _ _ read.files read.opens c.in-Ok.ensures read.taken
+    (shelf_at g.S.Shelf c.link_counted.new.shelf) c.in_ok-image.image.front _ _ _ _ read.files read.opens
+    (rw read.path at c.in-Ok.ensures) read.taken

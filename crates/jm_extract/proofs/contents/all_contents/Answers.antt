@@ -1,29 +1,29 @@
 use Rattle.std.proofs.Common.{◌≡◌, ◌∙◌, ◌+◌, ◌∷◌, [], ℕ, List, Option, ap, arith, length, refl, subst, sym}
 use Rattle.std.proofs.lemmas.List.{length-append}
-use Rattle.std.proofs.lemmas.List.Sums.{sum_by-take-le}
 use Rattle.jm_outside.specs.Files.{Files}
 use Rattle.jm_outside.specs.Outcome.{Shows}
-use Rattle.jm_filed.specs.declared.taking.TakenEntry.{TakenEntry}
 use Rattle.jm_filed.specs.Filed.{IsAt}
 use Rattle.jm_filed.specs.Taken.{content_in}
-use Rattle.jm_extract.proofs.FiledLaws.{contents_next, sizes_next}
+use Rattle.jm_extract.proofs.FiledLaws.{contents_next, size_within, sizes_next}
 use Rattle.jm_extract.proofs.contents.all_contents.Goals as goal
 
 pub returns-in_err-read_extent-clause-handed : goal.returns-in_err-read_extent-clause-handed
 returns-in_err-read_extent-clause-handed g c =
-    let ts = c.args.entries.now in
-    let i = c.loop-entry.entry-index in
-    let next = sizes_next ts i c.entry-item.result c.loop-entry-test.true (sym c.entry-item.is) in
-    let most = sum_by-take-le (λ (t : TakenEntry). t.content.size) ts (i + 1) in
-    omega (arith, next, most, c.loop-entry.invariant.handed, c.in_err-read_extent.ensures.handed)
+    omega (
+      arith,
+      size_within c.args.entries.now c.loop-entry.entry-index c.entry-item.result c.loop-entry-test.true (sym c.entry-item.is),
+      c.loop-entry.invariant.handed,
+      c.in_err-read_extent.ensures.handed,
+    )
 
 pub returns-in_err-push-clause-handed : goal.returns-in_err-push-clause-handed
 returns-in_err-push-clause-handed g c =
-    let ts = c.args.entries.now in
-    let i = c.loop-entry.entry-index in
-    let next = sizes_next ts i c.entry-item.result c.loop-entry-test.true (sym c.entry-item.is) in
-    let most = sum_by-take-le (λ (t : TakenEntry). t.content.size) ts (i + 1) in
-    omega (arith, next, most, c.loop-entry.invariant.handed, c.in_ok-read_extent.ensures.handed)
+    omega (
+      arith,
+      size_within c.args.entries.now c.loop-entry.entry-index c.entry-item.result c.loop-entry-test.true (sym c.entry-item.is),
+      c.loop-entry.invariant.handed,
+      c.in_ok-read_extent.ensures.handed,
+    )
 
 pub loop-entry-preserved : goal.loop-entry-preserved
 loop-entry-preserved g c =

@@ -1,13 +1,12 @@
-use Rattle.std.proofs.Common.{◌∙◌, Ok, Option, ap, arith, map, refl, sym, subst}
+use Rattle.std.proofs.Common.{◌∙◌, ap, arith, map, sym, subst, rules}
 use Rattle.std.proofs.lemmas.List.{length-map}
 use Rattle.jm_names.specs.ByName.{RisesByName}
 use Rattle.jm_reader.proofs.IndexLaws.{file_begins, file_with}
-use Rattle.jm_texts.specs.declared.refusal.Refusal.{Refusal}
-use Rattle.jm_extract.specs.Extracted.{due_size, extracted}
+use Rattle.jm_extract.specs.Extracted.{extracted}
 use Rattle.jm_filed.specs.Taken.{LieWithin, taken_as}
 use Rattle.jm_extract.proofs.ExtractLaws.{broken_off, free_due, out_of_memory, refused_due}
 use Rattle.jm_extract.proofs.RefusalLaws.{rises_alone}
-use Rattle.jm_extract.proofs.SizeLaws.{sizes_taken}
+use Rattle.jm_extract.proofs.SizeLaws.{size_due}
 use Rattle.jm_extract.proofs.extracting.extract.Goals as goal
 
 pub returns-in_err-taken-clause-extracts : goal.returns-in_err-taken-clause-extracts
@@ -31,40 +30,16 @@ returns-in_err-refusal-clause-extracts g c b filed =
     (g.S.Shelf.files c.args.shelf.now) c.from_residual-in_err-refusal.ensures.1
 
 pub returns-in-Some-clause-extracts : goal.returns-in-Some-clause-extracts
-returns-in-Some-clause-extracts g c b filed =
-    let is = sym c.in-Some.is ∙ c.in_ok-refusal.ensures.refusal b in (
-      refused_due (map (taken_as b) c.as_slice-entries.result.now) _ c.in-Some.refusal
-          (ap (map (taken_as b)) c.as_slice-entries.ensures ∙ c.in_ok-taken.ensures.taken b filed.0) is,
-      refl,
-    )
+returns-in-Some-clause-extracts g c b filed = search (rules, refused_due)
 
 pub make_files-requires : goal.make_files-requires
-make_files-requires g c =
-    record {
-      path = c.requires.path;
-      text = c.requires.text;
-      names = c.in_ok-refusal.ensures.sound (ap (λ (o : Option Refusal). Ok o) c.in_default.is);
-    }
+make_files-requires g c = search (rules)
 
 pub returns-in_err-make_files-clause-extracts : goal.returns-in_err-make_files-clause-extracts
-returns-in_err-make_files-clause-extracts g c b filed =
-    let entries = c.as_slice-entries.result.now in
-    let is = rw c.in_default.is at (c.in_ok-refusal.ensures.refusal b) in
-    let due = free_due (map (taken_as b) entries) _ (ap (map (taken_as b)) c.as_slice-entries.ensures
-    ∙ c.in_ok-taken.ensures.taken b filed.0) is in
-    broken_off (extracted b c.args.work.include.now) (map (taken_as b) entries) c.args.work.dir.now
-    c.from_residual-in_err-make_files.result c.in_err-make_files.field-0.0 (g.S.Shelf.files c.args.shelf.now)
-    (g.S.Shelf.files c.make_files.new.shelf) due c.from_residual-in_err-make_files.ensures.1 (c.in_err-make_files.ensures.makes b filed.1)
+returns-in_err-make_files-clause-extracts g c b filed = search (rules, broken_off, free_due)
 
 pub returns-in_err-make_files-clause-takes : goal.returns-in_err-make_files-clause-takes
-returns-in_err-make_files-clause-takes g c b file =
-    let entries = c.as_slice-entries.result.now in
-    let is = rw c.in_default.is at (c.in_ok-refusal.ensures.refusal b) in
-    let due = free_due (map (taken_as b) entries) _ (ap (map (taken_as b)) c.as_slice-entries.ensures
-    ∙ c.in_ok-taken.ensures.taken b file) is in
-    let within = subst (LieWithin c.args.image.index.now.length) (sym c.as_slice-entries.ensures) c.in_ok-taken.ensures.within in
-    let size = ap due_size due ∙ sizes_taken c.args.image.index.now.length b entries file.length_is within in
-    omega (arith, size, c.in_err-make_files.ensures.handed)
+returns-in_err-make_files-clause-takes g c b file = grind (arith, size_due)
 
 pub returns-clause-extracts : goal.returns-clause-extracts
 returns-clause-extracts g c b filed =
@@ -79,10 +54,11 @@ returns-clause-extracts g c b filed =
 
 pub returns-clause-takes : goal.returns-clause-takes
 returns-clause-takes g c b file =
-    let entries = c.as_slice-entries.result.now in
-    let is = rw c.in_default.is at (c.in_ok-refusal.ensures.refusal b) in
-    let due = free_due (map (taken_as b) entries) _ (ap (map (taken_as b)) c.as_slice-entries.ensures
-    ∙ c.in_ok-taken.ensures.taken b file) is in
-    let within = subst (LieWithin c.args.image.index.now.length) (sym c.as_slice-entries.ensures) c.in_ok-taken.ensures.within in
-    let size = ap due_size due ∙ sizes_taken c.args.image.index.now.length b entries file.length_is within in
-    omega (arith, size, c.in_ok-make_files.ensures.handed)
+    omega (
+      arith,
+      size_due c.args.image.index.now.length b c.as_slice-entries.result.now _ file.length_is
+          (subst (LieWithin c.args.image.index.now.length) (sym c.as_slice-entries.ensures) c.in_ok-taken.ensures.within)
+          (ap (map (taken_as b)) c.as_slice-entries.ensures ∙ c.in_ok-taken.ensures.taken b file)
+          (rw c.in_default.is at (c.in_ok-refusal.ensures.refusal b)),
+      c.in_ok-make_files.ensures.handed,
+    )

@@ -1,61 +1,38 @@
-use Rattle.std.proofs.Common.{◌≡◌, ◌+◌, ◌*◌, ℕ, refl, ap, subst, ◌∙◌, arith}
+use Rattle.std.proofs.Common.{◌+◌, ◌*◌, ℕ, refl, ap, subst, ◌∙◌, arith, rules}
 use Rattle.std.proofs.Math.Nat.{add-mul}
 use Rattle.jm_outside.specs.Made.{MadeAll, MadePart, Writes}
 use Rattle.jm_outside.proofs.MadeLaws.{made_none}
 use Rattle.jm_bytes.proofs.ResultLaws.{on_err}
 use Rattle.jm_gen.specs.Draws.{drawn}
-use Rattle.jm_gen.specs.Generated.{generated, module_files}
+use Rattle.jm_gen.specs.Generated.{module_files}
 use Rattle.jm_gen.proofs.DrawLaws.{drawn-drawn, same_files}
 use Rattle.jm_gen.proofs.FileLaws.{all_next, some_next}
 use Rattle.jm_gen.proofs.generating.generate.Goals as goal
 
 pub loop-number-init : goal.loop-number-init
-loop-number-init g c =
-    let none : 0 ≡ 0 * (c.args.classes + 1) = omega arith in
-    record {
-      files = made_none (g.S.Shelf.files c.args.shelf.now);
-      draws = c.new-draws.ensures ∙ ap (drawn c.args.seed) none;
-      faults = refl;
-    }
+loop-number-init g c = search (rules, made_none)
 
 pub returns-in_err-make_module-clause-err : goal.returns-in_err-make_module-clause-err
 returns-in_err-make_module-clause-err g c =
-    let dir = c.args.dir.now in
-    let classes = c.args.classes in
-    let seed = c.args.seed in
-    let number = c.loop-number.number in
-    let before = number * (classes + 1) in
-    let now = g.S.Shelf.files c.loop-number.shelf in
-    let new = g.S.Shelf.files c.make_module.new.shelf in
-    let same = same_files dir classes seed number before c.loop-number.draws c.loop-number.invariant.draws in
     on_err _ c.from_residual.result
-    (some_next (λ k. module_files dir classes seed k (k * (classes + 1))) number c.args.modules (g.S.Shelf.files c.args.shelf.now)
-    now new c.loop-number-test.true c.loop-number.invariant.files
-    (subst (λ (fs : Writes). MadePart fs now new) same c.in_err-make_module.ensures.err))
+    (some_next (λ k. module_files c.args.dir.now c.args.classes c.args.seed k (k * (c.args.classes + 1))) c.loop-number.number
+    c.args.modules _ _ _ c.loop-number-test.true c.loop-number.invariant.files
+    (subst (λ (fs : Writes). MadePart fs (g.S.Shelf.files c.loop-number.shelf) (g.S.Shelf.files c.make_module.new.shelf)) (same_files c.args.dir.now c.args.classes c.args.seed c.loop-number.number _
+    c.loop-number.draws c.loop-number.invariant.draws) c.in_err-make_module.ensures.err))
 
 pub loop-number-preserved : goal.loop-number-preserved
 loop-number-preserved g c =
-    let dir = c.args.dir.now in
-    let classes = c.args.classes in
-    let seed = c.args.seed in
+    let before = c.loop-number.invariant in
     let number = c.loop-number.number in
-    let before = number * (classes + 1) in
-    let now = g.S.Shelf.files c.loop-number.shelf in
-    let new = g.S.Shelf.files c.make_module.new.shelf in
-    let same = same_files dir classes seed number before c.loop-number.draws c.loop-number.invariant.draws in
-    let further : before + (classes + 1) ≡ (number + 1) * (classes + 1) =
-    let split = add-mul number 1 (classes + 1) in omega (arith, split) in
     record {
-      files = all_next (λ k. module_files dir classes seed k (k * (classes + 1))) number (g.S.Shelf.files c.args.shelf.now) now new
-          c.loop-number.invariant.files
-          (subst (λ (fs : Writes). MadeAll fs now new) same c.in_ok-make_module.ensures.ok);
-      draws = c.in_ok-make_module.ensures.draws ∙ ap (λ (d : ℕ). drawn d (classes + 1)) c.loop-number.invariant.draws
-          ∙ drawn-drawn seed before (classes + 1) ∙ ap (drawn seed) further;
-      faults = c.in_ok-make_module.ensures.faults.kept refl ∙ c.loop-number.invariant.faults;
+      files = all_next (λ k. module_files c.args.dir.now c.args.classes c.args.seed k (k * (c.args.classes + 1))) number _ _ _ before.files
+          (subst (λ (fs : Writes). MadeAll fs (g.S.Shelf.files c.loop-number.shelf) (g.S.Shelf.files c.make_module.new.shelf)) (same_files c.args.dir.now c.args.classes c.args.seed number _ c.loop-number.draws
+          before.draws) c.in_ok-make_module.ensures.ok);
+      draws = c.in_ok-make_module.ensures.draws ∙ ap (λ (d : ℕ). drawn d (c.args.classes + 1)) before.draws
+          ∙ drawn-drawn c.args.seed (number * (c.args.classes + 1)) (c.args.classes + 1)
+          ∙ ap (drawn c.args.seed) (omega (arith, add-mul number 1 (c.args.classes + 1)));
+      faults = c.in_ok-make_module.ensures.faults.kept refl ∙ before.faults;
     }
 
 pub returns-clause-ok : goal.returns-clause-ok
-returns-clause-ok g c =
-    let all : c.loop-number.number ≡ c.args.modules = omega (arith, c.loop-number.auto.number-end, c.loop-number-test.false) in
-    subst (λ (n : ℕ). MadeAll (generated c.args.dir.now n c.args.classes c.args.seed) (g.S.Shelf.files c.args.shelf.now)
-    (g.S.Shelf.files c.loop-number.shelf)) all c.loop-number.invariant.files
+returns-clause-ok g c = search (rules)

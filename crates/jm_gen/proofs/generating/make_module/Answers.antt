@@ -1,77 +1,47 @@
-use Rattle.std.proofs.Common.{◌≡◌, ◌+◌, ◌∷◌, [], ℕ, ap, refl, subst, ◌∙◌, arith}
-use Rattle.jm_outside.specs.Made.{MadeAll, MadePart}
+use Rattle.std.proofs.Common.{◌+◌, ap, refl, ◌∙◌, rules}
 use Rattle.jm_bytes.proofs.ResultLaws.{on_err}
 use Rattle.jm_gen.specs.Draws.{draw, drawn}
-use Rattle.jm_gen.specs.Generated.{class_file, info_file, module_files}
+use Rattle.jm_gen.specs.Generated.{class_file, info_file}
 use Rattle.jm_gen.proofs.DrawLaws.{class_draw, drawn_next}
 use Rattle.jm_gen.proofs.FileLaws.{made_next, part_first, part_next}
 use Rattle.jm_gen.proofs.generating.make_module.Goals as goal
 
 pub returns-in_err-make_info-clause-err : goal.returns-in_err-make_info-clause-err
 returns-in_err-make_info-clause-err g c =
-    let dir = c.args.place.dir.now in
-    let number = c.args.place.number in
-    let seed = c.args.draws.now in
-    let old = g.S.Shelf.files c.args.shelf.now in
-    let new = g.S.Shelf.files c.make_info.new.shelf in
     on_err _ c.from_residual.result
-    (part_first (info_file dir number (draw seed)) (λ k. class_file dir number k (drawn seed (0 + 2 + k))) c.args.classes old new
-    (subst (λ (d : ℕ). MadePart (info_file dir number d ∷ []) old new) c.draw.ensures.drawn c.in_err-make_info.ensures.err))
+    (part_first (info_file c.args.place.dir.now c.args.place.number (draw c.args.draws.now))
+    (λ k. class_file c.args.place.dir.now c.args.place.number k (drawn c.args.draws.now (0 + 2 + k))) c.args.classes _ _
+    (rw c.draw.ensures.drawn at c.in_err-make_info.ensures.err))
 
 pub loop-class-init : goal.loop-class-init
-loop-class-init g c =
-    let dir = c.args.place.dir.now in
-    let number = c.args.place.number in
-    let old = g.S.Shelf.files c.args.shelf.now in
-    let new = g.S.Shelf.files c.make_info.new.shelf in
-    record {
-      files = subst (λ (d : ℕ). MadeAll (info_file dir number d ∷ []) old new) c.draw.ensures.drawn c.in_ok-make_info.ensures.ok;
-      draws = c.draw.ensures.next;
-      faults = c.in_ok-make_info.ensures.faults.kept refl;
-    }
+loop-class-init g c = record {
+  files = rw c.draw.ensures.drawn at c.in_ok-make_info.ensures.ok;
+  draws = c.draw.ensures.next;
+  faults = c.in_ok-make_info.ensures.faults.kept refl;
+}
 
 pub returns-in_err-make_class-clause-err : goal.returns-in_err-make_class-clause-err
 returns-in_err-make_class-clause-err g c =
-    let dir = c.args.place.dir.now in
-    let number = c.args.place.number in
-    let seed = c.args.draws.now in
-    let class = c.loop-class.class in
-    let old = g.S.Shelf.files c.args.shelf.now in
-    let new = g.S.Shelf.files c.make_class.new.shelf in
-    let value = class_draw seed class c.loop-class.draws c.draw-in-loop-class.result c.loop-class.invariant.draws
-    c.draw-in-loop-class.ensures.drawn in
     on_err _ c.from_residual-in_err-make_class.result
-    (part_next (info_file dir number (draw seed)) (λ k. class_file dir number k (drawn seed (0 + 2 + k))) class c.args.classes old
-    (g.S.Shelf.files c.loop-class.shelf) new c.loop-class-test.true c.loop-class.invariant.files
-    (subst (λ (v : ℕ). MadePart (class_file dir number class v ∷ []) (g.S.Shelf.files c.loop-class.shelf) new) value
-    c.in_err-make_class.ensures.err))
+    (part_next (info_file c.args.place.dir.now c.args.place.number (draw c.args.draws.now))
+    (λ k. class_file c.args.place.dir.now c.args.place.number k (drawn c.args.draws.now (0 + 2 + k))) c.loop-class.class c.args.classes
+    _ _ _ c.loop-class-test.true c.loop-class.invariant.files
+    (rw (class_draw c.args.draws.now c.loop-class.class c.loop-class.draws c.draw-in-loop-class.result c.loop-class.invariant.draws
+    c.draw-in-loop-class.ensures.drawn) at c.in_err-make_class.ensures.err))
 
 pub loop-class-preserved : goal.loop-class-preserved
-loop-class-preserved g c =
-    let dir = c.args.place.dir.now in
-    let number = c.args.place.number in
-    let seed = c.args.draws.now in
-    let class = c.loop-class.class in
-    let old = g.S.Shelf.files c.args.shelf.now in
-    let new = g.S.Shelf.files c.make_class.new.shelf in
-    let value = class_draw seed class c.loop-class.draws c.draw-in-loop-class.result c.loop-class.invariant.draws
-    c.draw-in-loop-class.ensures.drawn in
-    record {
-      files = made_next (info_file dir number (draw seed)) (λ k. class_file dir number k (drawn seed (0 + 2 + k))) class old
-          (g.S.Shelf.files c.loop-class.shelf) new c.loop-class.invariant.files
-          (subst (λ (v : ℕ). MadeAll (class_file dir number class v ∷ []) (g.S.Shelf.files c.loop-class.shelf) new) value
-          c.in_ok-make_class.ensures.ok);
-      draws = c.draw-in-loop-class.ensures.next ∙ ap draw c.loop-class.invariant.draws ∙ drawn_next seed (class + 1);
-      faults = c.in_ok-make_class.ensures.faults.kept refl ∙ c.loop-class.invariant.faults;
-    }
+loop-class-preserved g c = record {
+  files = made_next (info_file c.args.place.dir.now c.args.place.number (draw c.args.draws.now))
+      (λ k. class_file c.args.place.dir.now c.args.place.number k (drawn c.args.draws.now (0 + 2 + k))) c.loop-class.class _ _ _
+      c.loop-class.invariant.files
+      (rw (class_draw c.args.draws.now c.loop-class.class c.loop-class.draws c.draw-in-loop-class.result c.loop-class.invariant.draws
+      c.draw-in-loop-class.ensures.drawn) at c.in_ok-make_class.ensures.ok);
+  draws = c.draw-in-loop-class.ensures.next ∙ ap draw c.loop-class.invariant.draws ∙ drawn_next c.args.draws.now (c.loop-class.class + 1);
+  faults = c.in_ok-make_class.ensures.faults.kept refl ∙ c.loop-class.invariant.faults;
+}
 
 pub returns-clause-ok : goal.returns-clause-ok
-returns-clause-ok g c =
-    let all : c.loop-class.class ≡ c.args.classes = omega (arith, c.loop-class.auto.class-end, c.loop-class-test.false) in
-    subst (λ (n : ℕ). MadeAll (module_files c.args.place.dir.now n c.args.draws.now c.args.place.number 0)
-    (g.S.Shelf.files c.args.shelf.now) (g.S.Shelf.files c.loop-class.shelf)) all c.loop-class.invariant.files
+returns-clause-ok g c = search (rules)
 
 pub returns-clause-draws : goal.returns-clause-draws
-returns-clause-draws g c =
-    let all : c.loop-class.class ≡ c.args.classes = omega (arith, c.loop-class.auto.class-end, c.loop-class-test.false) in
-    c.loop-class.invariant.draws ∙ ap (λ (n : ℕ). drawn c.args.draws.now (n + 1)) all
+returns-clause-draws g c = search (rules)

@@ -1,6 +1,5 @@
 use Rattle.jm_bytes.proofs.ResultLaws.{passed_on}
-use Rattle.jm_outside.specs.declared.streams.SinkError.TheVariants as sink_error
-use Rattle.jm_inspect.proofs.PieceLaws.{all_held, cut_passed, none_passed, then_passed}
+use Rattle.jm_inspect.proofs.PieceLaws.{cut_passed, then_passed}
 use Rattle.jm_inspect.proofs.described.put_module.Goals as goal
 
 pub returns-in_err-put_named : goal.returns-in_err-put_named
@@ -15,15 +14,8 @@ returns-in_err-put_version g c =
     c.from_residual-in_err-put_version.ensures.1)
     (cut_passed _ (then_passed name c.in_err-put_version.ensures))
 
-pub returns-in_err-extend : goal.returns-in_err-extend
-returns-in_err-extend g c =
-    let name = rw (c.module_word.ensures, c.as_slice.ensures) at c.in_ok-put_named.ensures in
-    let version = then_passed name c.in_ok-put_version.ensures in
-    rw (passed_on c.from_residual-in_err-extend.result sink_error.Memory c.from_residual-in_err-extend.ensures.1)
-    (then_passed version none_passed)
-
 pub returns : goal.returns
 returns g c =
     let name = rw (c.module_word.ensures, c.as_slice.ensures) at c.in_ok-put_named.ensures in
     let version = then_passed name c.in_ok-put_version.ensures in
-    then_passed version (all_held c.in_ok-extend.ensures.ok)
+    then_passed version c.hold.ensures

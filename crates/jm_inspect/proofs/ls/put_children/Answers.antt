@@ -1,14 +1,14 @@
-use Rattle.std.proofs.Common.{[], Ok, ◌++◌, ◌∙◌, append-nil, ap, sym}
+use Rattle.std.proofs.Common.{[], Ok, ◌++◌, ◌∙◌, append-nil, ap, refl, sym}
 use Rattle.jm_bytes.proofs.ResultLaws.{passed_on}
 use Rattle.jm_jrt.specs.Reply.{held_lines}
 use Rattle.jm_outside.specs.declared.streams.SinkError.TheVariants as sink_error
-use Rattle.jm_inspect.proofs.PieceLaws.{broken, front_put, last_put, no_child, none_passed, passed_then}
+use Rattle.jm_inspect.proofs.PieceLaws.{broken, front_cut, front_put, last_put, no_child, none_passed, passed_then}
 use Rattle.jm_inspect.proofs.ls.put_children.Goals as goal
 
 pub returns-in_err-extend_next_children : goal.returns-in_err-extend_next_children
 returns-in_err-extend_next_children g c =
     rw (passed_on c.from_residual.result sink_error.Memory c.from_residual.ensures.1)
-    (broken {holds = []} (passed_then c.loop-text.invariant.left none_passed))
+    (broken refl (passed_then c.loop-text.invariant.left (none_passed {held = []})))
 
 pub loop-text-preserved : goal.loop-text-preserved
 loop-text-preserved g c =
@@ -18,7 +18,7 @@ loop-text-preserved g c =
     let put = c.in_ok-put_piece.ensures in record {
       bytes = added.reads.bytes ∙ before.bytes ∙ sym added.bytes;
       empty = put.emptied;
-      left = passed_then (rw (sym lines) at before.left) (front_put put.puts);
+      left = passed_then before.left (front_put (held_lines c.args.path.now c.extend_next_children.new.list.rest) put.puts (sym lines) refl refl);
     }
 
 pub returns-in_err-put_piece : goal.returns-in_err-put_piece
@@ -28,7 +28,7 @@ returns-in_err-put_piece g c =
     (λ l. l ++ held_lines c.args.path.now c.loop-text.list.rest) before.empty in
     rw (passed_on c.from_residual-in_err-put_piece.result c.in_err-put_piece.field-0.0
     c.from_residual-in_err-put_piece.ensures.1)
-    (broken (passed_then (rw (sym lines) at before.left) (front_put c.in_err-put_piece.ensures.puts)))
+    (front_cut (held_lines c.args.path.now c.extend_next_children.new.list.rest) refl before.left (sym lines) c.in_err-put_piece.ensures.puts)
 
 pub returns : goal.returns
 returns g c =
@@ -40,4 +40,4 @@ returns g c =
     let lines = sym (added.lines ∙ ap (λ l. l ++ held_lines path c.loop-text.list.rest) before.empty) in
     let last = lines ∙ ap (λ l. text ++ l) none ∙ append-nil text ∙ sym c.as_slice.ensures.value in
     let put = c.put.ensures in
-    last_put (rw last at before.left) (record { all = put.ok; front = put.err; faults = put.faults })
+    last_put refl (rw last at before.left) (record { all = put.ok; front = put.err; faults = put.faults })

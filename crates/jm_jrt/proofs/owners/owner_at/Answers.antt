@@ -10,21 +10,15 @@ use Rattle.jm_jrt.proofs.owners.owner_at.Goals as goal
 
 pub word-empty-requires : goal.word-empty-requires
 word-empty-requires g c =
-    let count = c.pair_count.ensures in
-    let below = c.if-k-pair_count.false in
     (pair_at c.args.index.now.bytes c.args.content.now c.args.k c.requires.sound (omega arith)).flag_fits
 
 pub word-place-requires : goal.word-place-requires
 word-place-requires g c =
-    let count = c.pair_count.ensures in
-    let below = c.if-k-pair_count.false in
     (pair_at c.args.index.now.bytes c.args.content.now c.args.k c.requires.sound (omega arith)).place_fits
 
 pub returns-in_err-module-clause-end : goal.returns-in_err-module-clause-end
 returns-in_err-module-clause-end g c =
     let b = c.args.index.now.bytes in
-    let count = c.pair_count.ensures in
-    let below = c.if-k-pair_count.false in
     let at = pair_at b c.args.content.now c.args.k c.requires.sound (omega arith) in
     let place : c.from.result ≡ word_of b c.args.content.now (2 * c.args.k + 1) = c.from.ensures ∙ c.word-place.ensures in
     let section : strings c.buf.result c.header.result ≡ strings b (head b) = ap (λ x. strings x c.header.result) c.buf.ensures

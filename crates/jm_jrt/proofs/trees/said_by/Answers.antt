@@ -1,14 +1,13 @@
-use Rattle.std.proofs.Common.{◌≡◌, true, false, List, sym, ap, ◌∙◌}
-use Rattle.std.specs.List.{list_any}
-use Rattle.std.specs.Str.{bytes_eq}
+use Rattle.std.proofs.Common.{Ok, sym, ap, ◌∙◌}
 use Rattle.jm_bytes.proofs.ResultLaws.{passed_on}
-use Rattle.jm_form.specs.declared.trees.Owner.{Owner}
 use Rattle.jm_jrt.specs.declared.words.Form.TheVariants as form
+use Rattle.jm_form.specs.TreeView.{Link}
 use Rattle.jm_jrt.specs.Standings.{standing_as}
-use Rattle.jm_jrt.specs.Stat.{folder, link}
-use Rattle.jm_jrt.specs.Told.{all_told, children_told, owners_left, owners_told}
-use Rattle.jm_jrt.proofs.StandingLaws.{folder_of, link_of, no_link_of, no_slash_no_node, owners_refused}
-use Rattle.jm_jrt.proofs.StandingLaws.{said_children, said_link, said_owners, stat_said}
+use Rattle.jm_jrt.specs.Stat.{folder}
+use Rattle.jm_jrt.specs.Told.{all_told, children_told, owners_told}
+use Rattle.jm_jrt.proofs.StandingLaws.{folder_of, linked, no_slash_no_node, owners_refused}
+use Rattle.jm_jrt.proofs.StandingLaws.{said_children, said_owners, stat_said}
+use Rattle.jm_jrt.proofs.LinkLaws.{link_none, link_some}
 use Rattle.jm_jrt.proofs.trees.said_by.Goals as goal
 
 pub returns-in_err-check-clause-item : goal.returns-in_err-check-clause-item
@@ -55,25 +54,13 @@ returns-in_default-clause-item g c = λ b file node.
 
 pub returns-in-None-clause-item : goal.returns-in-None-clause-item
 returns-in-None-clause-item g c = λ b file node.
-    let path = c.args.path.now in
-    let content = c.args.content.now in
-    let other = sym c.has_children.ensures ∙ c.if-has_children.false in
-    let pack = sym c.is_package.ensures ∙ c.if-is_package.false in
-    let owners : List Owner = owners_left c.args.index.now.bytes content 0 in
-    let after = c.in-Some.ensures.after in
-    let none : list_any (λ (o : Owner). bytes_eq c.in-Some.module.now o.module) owners ≡ false = sym c.in-None.ensures.found in
-    no_link_of owners (owners_told b content) c.in-Some.module.now (c.in_ok-check-2.ensures.told b file) none
-    ∙ ap (λ m. link m (owners_told b content)) after ∙ sym (stat_said b path content node ∙ said_link b path content other pack)
+    sym (link_none c.in-Some.module.now _ (sym c.in-None.ensures.found))
+    ∙ linked b c.args.path.now c.args.content.now c.in-Some.module.now _ (sym c.has_children.ensures ∙ c.if-has_children.false)
+    (sym c.is_package.ensures ∙ c.if-is_package.false) c.in-Some.ensures.after (c.in_ok-check-2.ensures.told b file) node
 
 pub returns-in-Some-find_owner-clause-item : goal.returns-in-Some-find_owner-clause-item
 returns-in-Some-find_owner-clause-item g c = λ b file node.
-    let path = c.args.path.now in
-    let content = c.args.content.now in
-    let other = sym c.has_children.ensures ∙ c.if-has_children.false in
-    let pack = sym c.is_package.ensures ∙ c.if-is_package.false in
-    let owners : List Owner = owners_left c.args.index.now.bytes content 0 in
-    let after = c.in-Some.ensures.after in
-    let some : list_any (λ (o : Owner). bytes_eq c.in-Some.module.now o.module) owners ≡ true = sym c.in-Some-find_owner.ensures.found in
-    link_of owners (owners_told b content) c.in-Some-find_owner.module.now c.in-Some.module.now (c.in_ok-check-2.ensures.told b file)
-    c.in-Some-find_owner.ensures.same some ∙ ap (λ m. link m (owners_told b content)) after ∙ sym (stat_said b path content node
-    ∙ said_link b path content other pack)
+    ap (λ n. Ok (Link n)) c.in-Some-find_owner.ensures.same
+    ∙ sym (link_some c.in-Some.module.now _ (sym c.in-Some-find_owner.ensures.found))
+    ∙ linked b c.args.path.now c.args.content.now c.in-Some.module.now _ (sym c.has_children.ensures ∙ c.if-has_children.false)
+    (sym c.is_package.ensures ∙ c.if-is_package.false) c.in-Some.ensures.after (c.in_ok-check-2.ensures.told b file) node

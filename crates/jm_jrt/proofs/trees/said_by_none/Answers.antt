@@ -1,23 +1,13 @@
-use Rattle.std.proofs.Common.{sym, ap, ◌∙◌}
-use Rattle.std.specs.Prelude.{codes}
+use Rattle.std.proofs.Common.{sym, ap, ◌∙◌, rules}
 use Rattle.std.specs.Str.{bytes_eq}
-use Rattle.jm_form.specs.Validity.{look}
 use Rattle.jm_names.specs.Names.{is_node}
 use Rattle.jm_jrt.specs.Stat as answers
-use Rattle.jm_jrt.proofs.StandingLaws.{is_row_found, no_resource, no_row_found, resource_is, stat_unsaid, unsaid_inner, unsaid_other}
-use Rattle.jm_jrt.proofs.StandingLaws.{unsaid_roots}
+use Rattle.jm_jrt.proofs.StandingLaws.{is_row_found, no_resource, no_row_found, stat_unsaid, unsaid_file, unsaid_inner}
+use Rattle.jm_jrt.proofs.StandingLaws.{unsaid_other, unsaid_roots}
 use Rattle.jm_jrt.proofs.trees.said_by_none.Goals as goal
 
 pub returns-then-eq-clause-item : goal.returns-then-eq-clause-item
-returns-then-eq-clause-item g c = λ b file node.
-    let path = c.args.path.now in
-    let slash = sym (c.eq.ensures ∙ ap (bytes_eq path) c.as_slice.ensures) ∙ c.if-eq.true in
-    let modules = is_row_found b (codes "/modules") c.find_row_in.result c.is_some-modules.result c.is_some-modules.ensures
-    (c.find_row_in.ensures.found b file) in
-    let packages = is_row_found b (codes "/packages") c.find_row_in-then-eq.result c.is_some-packages.result c.is_some-packages.ensures
-    (c.find_row_in-then-eq.ensures.found b file) in
-    unsaid_roots b path c.is_some-modules.result c.is_some-packages.result c.of.result.rest slash c.of.ensures.rest modules packages
-    ∙ sym (stat_unsaid b path c.header-header.result (c.header-header.ensures.valid b file).header node)
+returns-then-eq-clause-item g c = search (rules, is_row_found, stat_unsaid, unsaid_roots)
 
 pub returns-then-not-starts_with-clause-item : goal.returns-then-not-starts_with-clause-item
 returns-then-not-starts_with-clause-item g c = λ b file node.
@@ -37,22 +27,14 @@ returns-then-is_node-clause-item g c = λ b file node.
 
 pub returns-in-None-clause-item : goal.returns-in-None-clause-item
 returns-in-None-clause-item g c = λ b file node.
-    let path = c.args.path.now in
-    let slash = sym (c.eq.ensures ∙ ap (bytes_eq path) c.as_slice.ensures) ∙ c.if-eq.false in
-    let inner = sym c.starts_with.ensures.value ∙ c.if-not-starts_with.false in
-    let other = sym (c.is_node.ensures ∙ ap is_node c.split_at.ensures.back) ∙ c.if-is_node.false in
-    let name = c.split_at.result.1.now in
-    let none = no_row_found (look b name) (c.in-None.ensures.found b file) in
-    let nothing = ap (look b) (sym c.split_at.ensures.back) ∙ none in
-    sym (stat_unsaid b path c.header-header.result (c.header-header.ensures.valid b file).header node ∙ unsaid_inner b path slash inner
-    ∙ resource_is b path other ∙ ap answers.file nothing)
+    ap answers.file (sym (no_row_found _ (c.in-None.ensures.found b file)))
+    ∙ unsaid_file b c.args.path.now c.split_at.result.1.now c.header-header.result (c.header-header.ensures.valid b file).header node
+    (sym (c.eq.ensures ∙ ap (bytes_eq c.args.path.now) c.as_slice.ensures) ∙ c.if-eq.false)
+    (sym c.starts_with.ensures.value ∙ c.if-not-starts_with.false) c.split_at.ensures.back (sym c.is_node.ensures ∙ c.if-is_node.false)
 
 pub returns-in-Some-clause-item : goal.returns-in-Some-clause-item
 returns-in-Some-clause-item g c = λ b file node.
-    let path = c.args.path.now in
-    let slash = sym (c.eq.ensures ∙ ap (bytes_eq path) c.as_slice.ensures) ∙ c.if-eq.false in
-    let inner = sym c.starts_with.ensures.value ∙ c.if-not-starts_with.false in
-    let other = sym (c.is_node.ensures ∙ ap is_node c.split_at.ensures.back) ∙ c.if-is_node.false in
-    let found = ap (look b) (sym c.split_at.ensures.back) ∙ c.in-Some.ensures.content b file in
-    sym (stat_unsaid b path c.header-header.result (c.header-header.ensures.valid b file).header node ∙ unsaid_inner b path slash inner
-    ∙ resource_is b path other ∙ ap answers.file found)
+    ap answers.file (sym (c.in-Some.ensures.content b file))
+    ∙ unsaid_file b c.args.path.now c.split_at.result.1.now c.header-header.result (c.header-header.ensures.valid b file).header node
+    (sym (c.eq.ensures ∙ ap (bytes_eq c.args.path.now) c.as_slice.ensures) ∙ c.if-eq.false)
+    (sym c.starts_with.ensures.value ∙ c.if-not-starts_with.false) c.split_at.ensures.back (sym c.is_node.ensures ∙ c.if-is_node.false)

@@ -1,4 +1,4 @@
-use Rattle.std.proofs.Common.{◌≡◌, ◌∙◌, ◌<◌, ℕ, List, length, map, Err, refl, subst, sym}
+use Rattle.std.proofs.Common.{◌≡◌, ◌∙◌, ◌<◌, ℕ, List, length, map, Err, refl, subst, sym, rules}
 use Rattle.jm_bytes.proofs.Members.{all_from_contains}
 use Rattle.jm_bytes.proofs.ResultLaws.{passed_on}
 use Rattle.jm_bytes.specs.Results.{IfAnswered}
@@ -47,11 +47,7 @@ link_files-requires-clause-places g c =
     (roots_among (candidates visible) c.args.task.now.roots) c.args.task.now.bind c.in_ok-places.places closes.1 i has)))
 
 pub link_files-requires-clause-once : goal.link_files-requires-clause-once
-link_files-requires-clause-once g c =
-    let closes = rw c.candidates.ensures at c.in_ok-places.ensures in
-    let found = candidates c.in_ok-visible.visible in
-    rw c.as_slice.ensures (chosen_differ found (roots_among found c.args.task.now.roots) c.args.task.now.bind
-    c.in_ok-places.places closes.1)
+link_files-requires-clause-once g c = search (rules, chosen_differ)
 
 pub returns-in_err-files-clause-links : goal.returns-in_err-files-clause-links
 returns-in_err-files-clause-links g c =
@@ -98,10 +94,7 @@ returns-in_err-left-clause-links g c =
     (λ fault applies. to (Err (plugging_refusal fault)) (unplugged asked (length c.in_ok-places.places) c.in_ok-read.read fault applies)))
 
 pub write_image-requires-clause-fit : goal.write_image-requires-clause-fit
-write_image-requires-clause-fit g c =
-    let acted = rw c.as_slice-plugins.ensures at c.in_ok-left.ensures in
-    fit_left c.args.task.now.release c.args.task.now.plugins c.in_ok-read.read c.in_ok-left.left acted
-    (subst AreFit (sym c.in_ok-read.ensures.names) c.in_ok-files.ensures.fit)
+write_image-requires-clause-fit g c = search (rules, fit_left)
 
 pub returns-clause-links : goal.returns-clause-links
 returns-clause-links g c =

@@ -1,4 +1,4 @@
-use Rattle.std.proofs.Common.{◌∙◌, ap, arith, sym}
+use Rattle.std.proofs.Common.{◌∙◌, ap, arith, sym, rules}
 use Rattle.std.specs.List.{filter_map}
 use Rattle.std.proofs.lemmas.List.{take_all}
 use Rattle.jm_modpath.specs.Finding.{folders_among}
@@ -28,9 +28,7 @@ loop-name-preserved c =
     ]
 
 pub returns-clause-folders : goal.returns-clause-folders
-returns-clause-folders c =
-    let all = take_all c.loop-name.name-index c.args.names.now (omega arith) in
-    rw (c.loop-name.invariant ∙ ap (filter_map folder_with_info) all) at c.rising.ensures
+returns-clause-folders c = search (rules, take_all)
 
 pub returns-clause-texts : goal.returns-clause-texts
 returns-clause-texts c =

@@ -1,3 +1,4 @@
+use Rattle.std.proofs.Common.{rules}
 use Rattle.jm_modpath.proofs.PathLaws.{path_done, path_ended}
 use Rattle.jm_bytes.proofs.ResultLaws.{passed_on}
 use Rattle.jm_modpath.proofs.path.visible_modules.Goals as goal
@@ -15,7 +16,4 @@ returns-in_err-found-clause-modules g c =
     c.loop-directory.invariant.told c.in_err-found.ensures.told)
 
 pub returns-clause-modules : goal.returns-clause-modules
-returns-clause-modules g c =
-    rw (c.in_ok-of.ensures, c.into_list.ensures.list)
-    (path_done c.args.release _ c.args.directories.now c.loop-directory.directory-index c.loop-directory.found
-    c.loop-directory-test.false c.loop-directory.invariant.told)
+returns-clause-modules g c = search (rules, path_done)

@@ -1,12 +1,10 @@
-use Rattle.std.proofs.Common.{◌<◌, All, length, refl, sym, ap, subst, ◌∙◌}
+use Rattle.std.proofs.Common.{◌<◌, All, length, ap, subst, ◌∙◌, rules}
 use Rattle.jm_plugins.specs.Steps.{put_remade}
 use Rattle.jm_plugins.proofs.ClassLaws.{first_within, put_more, put_refused, put_none, within_more}
 use Rattle.jm_plugins.proofs.classes.put_remade.Goals as goal
 
 pub loop-place-init : goal.loop-place-init
-loop-place-init c =
-    let all = c.into_iter-place-iterator.ensures.into_iter_gives.0 ∙ c.into_vec-place-items.ensures in
-    rw all (refl, c.requires)
+loop-place-init c = search (rules)
 
 pub replace-requires : goal.replace-requires
 replace-requires c =
@@ -30,12 +28,7 @@ refusal-requires c =
     c.in-Some.ensures.steps.0 c.loop-place.invariant.1
 
 pub returns-in-Err : goal.returns-in-Err
-returns-in-Err c =
-    let so_far = c.loop-place.invariant.0 ∙ ap (λ l. put_remade l c.loop-place.pool) c.in-Some.ensures.steps.0 in
-    put_refused c.in-Some.field-0 c.next.new.self.rest.items c.loop-place.pool c.in-Err.error c.refusal.result _ c.in-Err.is
-    c.refusal.ensures so_far
+returns-in-Err c = search (rules, put_refused)
 
 pub returns : goal.returns
-returns c =
-    let rest = c.loop-place.place-iterator.rest in
-    put_none rest.items rest.len c.loop-place.pool _ (sym rest.ok.0) c.in-None.ensures.steps.0 c.loop-place.invariant.0
+returns c = search (rules, put_none)

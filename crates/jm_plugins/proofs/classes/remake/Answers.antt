@@ -1,4 +1,4 @@
-use Rattle.std.proofs.Common.{sym, subst}
+use Rattle.std.proofs.Common.{sym, subst, rules}
 use Rattle.jm_class.proofs.ReadingLaws.{bytes_all}
 use Rattle.jm_class.proofs.ReleaseLaws.{class_for-reads}
 use Rattle.jm_plugins.specs.Steps.{text_of, RemadeAs}
@@ -20,10 +20,7 @@ returns-in-Compact-clause-made c =
     (compacts_as c.args.release bytes c.compact_for.result c.compact_for.ensures.computed)
 
 pub returns-in-Packages-clause-made : goal.returns-in-Packages-clause-made
-returns-in-Packages-clause-made c =
-    let name = c.args.name.now in
-    let bytes = c.args.bytes.now in
-    subst (λ way. RemadeAs c.args.release (text_of way name) bytes c.with_packages.result) (sym c.in-Packages.is) c.with_packages.ensures
+returns-in-Packages-clause-made c = search (rules)
 
 pub returns-in-Strip-clause-read : goal.returns-in-Strip-clause-read
 returns-in-Strip-clause-read c = λ class is. class_for-reads c.args.release c.args.bytes.now class (bytes_all c.args.bytes.now

@@ -1,4 +1,4 @@
-use Rattle.std.proofs.Common.{◌≡◌, [], get_or, length, sym, ap, ◌∙◌, arith}
+use Rattle.std.proofs.Common.{◌≡◌, [], get_or, sym, ap, ◌∙◌, arith, rules}
 use Rattle.std.proofs.lemmas.List.{get_or_default}
 use Rattle.jm_pattern.specs.ComputedMatching.{matches}
 use Rattle.jm_plugins.proofs.OrderLaws.{rank_here}
@@ -15,8 +15,4 @@ returns-then-matches c =
     (λ below. ap (λ p. matches p name) here ∙ sym c.matches.ensures.value ∙ c.if-matches.true))
 
 pub returns : goal.returns
-returns c =
-    let patterns = c.args.patterns.now in
-    let all : c.loop-number.number ≡ length patterns = omega (arith, c.loop-number.auto.number-end, c.loop-number-test.false) in
-    sym (rank_here patterns c.args.name.now c.loop-number.number (omega (arith, all)) c.loop-number.invariant
-    (λ below. absurd (omega (arith, below, all))) ∙ all)
+returns c = search (rules, rank_here)

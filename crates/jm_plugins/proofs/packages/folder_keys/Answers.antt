@@ -1,13 +1,12 @@
-use Rattle.std.proofs.Common.{◌≡◌, ◌++◌, ◌∷◌, ℕ, List, Option, ap, arith, option_map, sym, ◌∙◌}
+use Rattle.std.proofs.Common.{◌++◌, ◌∷◌, ℕ, List, Option, ap, arith, option_map, sym, rules}
 use Rattle.std.proofs.lemmas.List.{length-map, take_all}
-use Rattle.std.specs.List.{filter_map}
-use Rattle.jm_form.specs.Rising.{items_of, rising}
+use Rattle.jm_form.specs.Rising.{items_of}
 use Rattle.jm_form.specs.Trees.{module_of}
 use Rattle.jm_form.proofs.ListLaws.{grown_none, grown_some}
 use Rattle.jm_form.proofs.RisingLaws.{items_push}
 use Rattle.jm_names.specs.Names.{dotted}
 use Rattle.jm_pool.specs.Pairs.{names_of}
-use Rattle.jm_plugins.specs.Packaging.{folder_key, folder_keys}
+use Rattle.jm_plugins.specs.Packaging.{folder_key}
 use Rattle.jm_plugins.proofs.PackagingLaws.{keys_rise, name_at}
 use Rattle.jm_plugins.proofs.packages.folder_keys.Goals as goal
 use Rattle.jm_plugins.proofs.packages.folder_keys.Goals.{in-Some+in_ok-key+in_ok-push, in_default}
@@ -35,16 +34,7 @@ loop-place-preserved c =
     ]
 
 pub invariant_of-result : goal.invariant_of-result
-invariant_of-result c =
-    let pairs = c.args.pool.now in
-    let size = length-map pairs (λ (p : List ℕ × List ℕ). p.0) in
-    let all = c.loop-place.invariant ∙ ap (filter_map folder_key) (take_all c.loop-place.place (names_of pairs) (omega (arith, size))) in
-    let whole : c.in_ok-list.list ≡ folder_keys (names_of pairs) = c.in_ok-list.ensures ∙ ap rising all in
-    rw whole (keys_rise (names_of pairs))
+invariant_of-result c = search (rules, length-map, take_all, keys_rise)
 
 pub returns : goal.returns
-returns c =
-    let pairs = c.args.pool.now in
-    let size = length-map pairs (λ (p : List ℕ × List ℕ). p.0) in
-    let all = c.loop-place.invariant ∙ ap (filter_map folder_key) (take_all c.loop-place.place (names_of pairs) (omega (arith, size))) in
-    c.in_ok-list.ensures ∙ ap rising all
+returns c = search (rules, length-map, take_all)

@@ -1,6 +1,6 @@
 use Rattle.std.proofs.Common.{◌∙◌, refl, sym}
 use Rattle.jm_poolmap.specs.Attributes.{bootstrap_method}
-use Rattle.jm_poolmap.proofs.Loops.{finds_stop, reads_stop, times_next, times_stop}
+use Rattle.jm_poolmap.proofs.Loops.{finds_stop, none_stop, times_next, times_stop}
 use Rattle.jm_poolmap.proofs.bodies.methods.Goals as goal
 
 pub returns-in_err-site : goal.returns-in_err-site
@@ -12,10 +12,10 @@ returns-in_err-site c =
 
 pub returns-in_err-arguments : goal.returns-in_err-arguments
 returns-in_err-arguments c =
-    reads_stop (λ n. n) _ _ c.in_err-arguments.field-0.0 c.from_residual-in_err-arguments.result c.site.new.found
-    c.number16.new.cursor c.number16.new.cursor c.from_residual-in_err-arguments.ensures.1 c.in_err-arguments.ensures
-    (λ stops. sym c.loop-k.invariant ∙ times_stop bootstrap_method c.args.count c.loop-k._k c.loop-k.found c.loop-k.cursor
-    c.loop-k-test.true (rw (c.in_ok-site.ensures, stops) refl))
+    none_stop _ _ c.from_residual-in_err-arguments.result c.site.new.found c.number16.new.cursor
+    c.from_residual-in_err-arguments.ensures.1
+    (sym c.loop-k.invariant ∙ times_stop bootstrap_method c.args.count c.loop-k._k c.loop-k.found c.loop-k.cursor c.loop-k-test.true
+    (rw (c.in_ok-site.ensures, c.in_err-arguments.ensures) refl))
 
 pub returns-in_err-rows : goal.returns-in_err-rows
 returns-in_err-rows c =

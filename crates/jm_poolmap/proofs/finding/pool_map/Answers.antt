@@ -3,7 +3,7 @@ use Rattle.std.proofs.lemmas.List.{append-nil, drop_all}
 use Rattle.jm_class.specs.Views.{plain, pool_of}
 use Rattle.jm_poolmap.specs.Sites.{site_of}
 use Rattle.jm_poolmap.proofs.ComputedLiveLaws.{sites_unknown, sites_walked, live_walked}
-use Rattle.jm_poolmap.proofs.PoolLaws.{all_fit}
+use Rattle.jm_classout.proofs.ClassTexts.{slots_fit}
 use Rattle.jm_poolmap.proofs.finding.pool_map.Goals as goal
 use Rattle.jm_poolmap.proofs.finding.pool_map.Goals.{then-not-all_constants-via-then-not-all_constants}
 use Rattle.jm_poolmap.proofs.finding.pool_map.Goals.{then-not-all_constants-via-else-not-all_constants+then-not-all_lower}
@@ -14,7 +14,7 @@ returns-in-Err-Fault-clause-sites c =
     sym (sites_unknown (plain c.args.class.now) c.requires.well_formed unknown)
 
 pub all_lower-requires : goal.all_lower-requires
-all_lower-requires c = rw c.as_slice-pool.ensures (all_fit false (pool_of c.args.class.now.pool) c.requires.well_formed.pool)
+all_lower-requires c = rw c.as_slice-pool.ensures (slots_fit false (pool_of c.args.class.now.pool) c.requires.well_formed.pool)
 
 pub returns-then-not-all_constants-clause-sites : goal.returns-then-not-all_constants-clause-sites
 returns-then-not-all_constants-clause-sites c =
@@ -30,7 +30,7 @@ returns-then-not-all_constants-clause-sites c =
     ]
 
 pub flags_of-requires : goal.flags_of-requires
-flags_of-requires c = rw c.as_slice-pool.ensures (all_fit false (pool_of c.args.class.now.pool) c.requires.well_formed.pool)
+flags_of-requires c = rw c.as_slice-pool.ensures (slots_fit false (pool_of c.args.class.now.pool) c.requires.well_formed.pool)
 
 pub returns-clause-sites : goal.returns-clause-sites
 returns-clause-sites c =

@@ -7,7 +7,7 @@ use Rattle.jm_redirect.proofs.prefix.shared_prefix.Goals as goal
 pub loop-name-preserved : goal.loop-name-preserved
 loop-name-preserved c =
     begins_more c.loop-name.prefix.now c.args.names.now c.loop-name.name-index c.shared_len.result _ c.loop-name-test.true
-    c.shared_len.ensures.within c.shared_len.ensures.same c.loop-name.invariant
+    c.shared_len.ensures.text c.shared_len.ensures.same c.loop-name.invariant
 
 pub returns : goal.returns
 returns c =

@@ -1,4 +1,4 @@
-use Rattle.std.proofs.Common.{◌++◌, ap, length, sym, ◌∙◌}
+use Rattle.std.proofs.Common.{◌++◌, ap, length, sym, ◌∙◌, arith}
 use Rattle.jm_filed.specs.Filed.{IsWithin}
 use Rattle.jm_reader.proofs.WalkLaws.{later_further}
 use Rattle.jm_relink.specs.declared.choosing.ChosenFile.{ChosenFile}
@@ -23,17 +23,4 @@ put_file-requires g c =
     }
 
 pub loop-file-preserved : goal.loop-file-preserved
-loop-file-preserved g c =
-    let before = c.loop-file in
-    let file = c.in-Some.file in
-    let put = c.in_ok-put_file.ensures in
-    record {
-      can = tt;
-      ends = tt;
-      all = taken_more before.yielded before.file-iterator.rest.items c.next.new.self.rest.items c.args.files file
-          before.invariant.all
-          c.in-Some.ensures.steps.0;
-      metered = put.reads.bytes ∙ before.invariant.metered;
-      reads = later_further c.args.reads.now before.reads c.put_file.new.reads before.invariant.reads put.reads;
-      pool = pooled_more c.args.image.now before.yielded file before.pool c.put_file.new.pool before.invariant.pool put.put;
-    }
+loop-file-preserved g c = grind (arith, later_further, taken_more, pooled_more)

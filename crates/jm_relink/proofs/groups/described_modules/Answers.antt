@@ -1,4 +1,4 @@
-use Rattle.std.proofs.Common.{◌≡◌, of_calls, rules, sym, ◌∙◌}
+use Rattle.std.proofs.Common.{◌≡◌, of_calls, rules}
 use Rattle.std.proofs.lemmas.List.{nil_from_length}
 use Rattle.jm_relink.proofs.GroupingLaws.{grouped_all, grouped_first, grouped_next, infos_all, within_all}
 use Rattle.jm_relink.proofs.groups.described_modules.Goals as goal
@@ -26,18 +26,10 @@ loop-entry-preserved c =
     }
 
 pub returns-clause-groups : goal.returns-clause-groups
-returns-clause-groups c b =
-    let before = c.loop-entry in
-    let rest = before.entry-iterator.rest in
-    let none = nil_from_length rest.items (sym rest.ok.0 ∙ c.in-None.ensures.steps.0) in
-    grouped_all c.args.entries before.done c.push_some.new.list before.current rest.items c.described.result
-    before.invariant.so_far c.in_ok-push_some.ensures none c.described.ensures.group b
+returns-clause-groups c b = search (rules, nil_from_length, grouped_all)
 
 pub returns-clause-infos : goal.returns-clause-infos
-returns-clause-infos c =
-    let before = c.loop-entry in
-    infos_all c.args.entries before.done c.push_some.new.list before.current before.entry-iterator.rest.items c.described.result
-    before.invariant.so_far c.in_ok-push_some.ensures c.described.ensures.info
+returns-clause-infos c = search (rules, infos_all)
 
 pub returns-clause-within : goal.returns-clause-within
 returns-clause-within c =

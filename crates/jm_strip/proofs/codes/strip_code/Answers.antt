@@ -1,6 +1,7 @@
 use Rattle.std.proofs.Common.{ℕ, Ok, subst, sym, ap, ◌++◌, ◌∙◌, arith}
 use Rattle.jm_class.specs.Classes.{sized_text, code_text}
-use Rattle.jm_class.specs.ComputedClass.{code_fields}
+use Rattle.jm_class.specs.ClassLayout.{code_fields}
+use Rattle.jm_class.specs.Layouts.{reading}
 use Rattle.jm_class.specs.declared.class.ClassFault.TheVariants.{Short, CodeLength}
 use Rattle.jm_class.proofs.ReadingLaws.{IsBytes}
 use Rattle.jm_strip.proofs.Shorter.{inner-length, code-fits, length_behind, length_put}
@@ -19,7 +20,7 @@ returns-in_err-strip_parts c =
     c.inner.new.cursor c.from_residual-in_err-strip_parts.ensures.1 c.in_err-strip_parts.ensures
     (λ fault stops.
     let first = stopped (λ a. c.put32.new.text.items ++ code_text (strip_code pool a))
-    (code_fields (λ at. CodeLength c.place.result) pool c.in_ok-inner.inner) fault stops in
+    (reading (λ at. CodeLength c.place.result) (code_fields pool) c.in_ok-inner.inner) fault stops in
     ap (shown (λ a. c.args.text.now.items ++ sized_text (code_text (strip_code pool a)))) (stop fault (rw (sym c.place.ensures) first)))
 
 pub returns-then-len-ne0 : goal.returns-then-len-ne0
@@ -27,7 +28,7 @@ returns-then-len-ne0 c =
     let pool = c.args.pool.now in
     let rest = code-rest pool c.args.cursor.now c.number32.new.cursor c.in_ok-inner.inner c.inner.new.cursor c.in_ok-size.size
     c.in_ok-size.ensures c.in_ok-inner.ensures in
-    let got = saw (λ a. c.put32.new.text.items ++ code_text (strip_code pool a)) (code_fields (λ at. CodeLength c.place.result) pool
+    let got = saw (λ a. c.put32.new.text.items ++ code_text (strip_code pool a)) (reading (λ at. CodeLength c.place.result) (code_fields pool)
     c.in_ok-inner.inner) c.strip_parts.new.text.items c.strip_parts.new.cursor c.in_ok-strip_parts.ensures in
     rw c.place.ensures
     (ap (shown (λ a. c.args.text.now.items ++ sized_text (code_text (strip_code pool a)))) (rest got.first c.strip_parts.new.cursor
@@ -37,7 +38,7 @@ pub overflow_cast-len : goal.overflow_cast-len
 overflow_cast-len c =
     let pool = c.args.pool.now in
     let short = λ (at : ℕ). CodeLength c.place.result in
-    let got = saw (λ a. c.put32.new.text.items ++ code_text (strip_code pool a)) (code_fields short pool c.in_ok-inner.inner)
+    let got = saw (λ a. c.put32.new.text.items ++ code_text (strip_code pool a)) (reading short (code_fields pool) c.in_ok-inner.inner)
     c.strip_parts.new.text.items c.strip_parts.new.cursor c.in_ok-strip_parts.ensures in
     let bytes = subst IsBytes c.rest.ensures c.are_bytes.ensures in
     let part = inner-length Short c.in_ok-size.size c.number32.new.cursor c.in_ok-inner.inner c.inner.new.cursor c.in_ok-inner.ensures in
@@ -52,7 +53,7 @@ returns c =
     let pool = c.args.pool.now in
     let all = code-all pool c.args.cursor.now c.number32.new.cursor c.in_ok-inner.inner c.inner.new.cursor c.in_ok-size.size
     c.in_ok-size.ensures c.in_ok-inner.ensures in
-    let got = saw (λ a. c.put32.new.text.items ++ code_text (strip_code pool a)) (code_fields (λ at. CodeLength c.place.result) pool
+    let got = saw (λ a. c.put32.new.text.items ++ code_text (strip_code pool a)) (reading (λ at. CodeLength c.place.result) (code_fields pool)
     c.in_ok-inner.inner) c.strip_parts.new.text.items c.strip_parts.new.cursor c.in_ok-strip_parts.ensures in
     let put = length_put c.args.text.now.items c.put32.new.text.items (code_text (strip_code pool got.first))
     c.strip_parts.new.text.items c.len-at.result c.len-2.result c.in_ok-put32.ensures got.same (c.len-at.ensures

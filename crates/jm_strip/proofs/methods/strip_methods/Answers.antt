@@ -1,7 +1,8 @@
 use Rattle.std.proofs.Common.{true, ◌∙◌, arith}
 use Rattle.jm_class.specs.declared.class.ClassFault.TheVariants.{Short}
 use Rattle.jm_class.specs.Classes.{member_text}
-use Rattle.jm_class.specs.ComputedClass.{member_field}
+use Rattle.jm_class.specs.ClassLayout.{member_field}
+use Rattle.jm_class.specs.Layouts.{reading}
 use Rattle.jm_strip.specs.Strip.{strip_method}
 use Rattle.jm_strip.proofs.PutLists.{put-next, list-put, list-stopped}
 use Rattle.jm_strip.proofs.Shown.{walk_stop}
@@ -12,14 +13,14 @@ returns-in_err-strip_method c =
     let pool = c.args.pool.now in
     walk_stop _ _ _ c.in_err-strip_method.field-0.0 c.from_residual-in_err-strip_method.result c.strip_method.new.cursor
     c.strip_method.new.cursor c.from_residual-in_err-strip_method.ensures.1 c.in_err-strip_method.ensures
-    (list-stopped Short (member_field pool true) member_text (strip_method pool) c.args.cursor.now c.number16.new.cursor
+    (list-stopped Short (reading Short (member_field pool true)) member_text (strip_method pool) c.args.cursor.now c.number16.new.cursor
     c.in_ok-count.count c.in_ok-count.ensures c.args.text.now.items c.put16.new.text.items c.in_ok-put16.ensures
     c.loop-k._k c.loop-k.cursor c.loop-k.text.items c.loop-k-test.true c.loop-k.invariant)
 
 pub loop-k-preserved : goal.loop-k-preserved
 loop-k-preserved c =
     let pool = c.args.pool.now in
-    c.loop-k.invariant ∙ put-next (member_field pool true) (λ a. member_text (strip_method pool a)) c.in_ok-count.count c.loop-k._k
+    c.loop-k.invariant ∙ put-next (reading Short (member_field pool true)) (λ a. member_text (strip_method pool a)) c.in_ok-count.count c.loop-k._k
     c.loop-k.cursor c.strip_method.new.cursor c.loop-k.text.items c.strip_method.new.text.items c.loop-k-test.true
     c.in_ok-strip_method.ensures
 
@@ -27,6 +28,6 @@ pub returns : goal.returns
 returns c =
     let pool = c.args.pool.now in
     let ends = c.loop-k-test.false in
-    list-put Short (member_field pool true) member_text (strip_method pool) c.args.cursor.now c.number16.new.cursor
+    list-put Short (reading Short (member_field pool true)) member_text (strip_method pool) c.args.cursor.now c.number16.new.cursor
     c.in_ok-count.count c.in_ok-count.ensures c.args.text.now.items c.put16.new.text.items c.in_ok-put16.ensures
     c.loop-k._k c.loop-k.cursor c.loop-k.text.items (omega (arith, ends)) c.loop-k.invariant

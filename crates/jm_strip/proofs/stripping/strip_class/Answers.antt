@@ -1,8 +1,8 @@
 use Rattle.std.proofs.Common.{◌≡◌, ℕ, [], ◌∷◌, ◌++◌, map, filter, false, true, Ok, ap, ◌∙◌, subst}
 use Rattle.jm_class.specs.declared.class.ClassFault.TheVariants.{Short}
 use Rattle.jm_class.specs.Classes.{AttributeData, joined, counted_text, member_text, attribute_text}
-use Rattle.jm_class.specs.ComputedClass.{short_number, attribute_field, member_field}
-use Rattle.jm_class.specs.Readings.{list_of}
+use Rattle.jm_class.specs.ClassLayout.{attribute_field, member_field}
+use Rattle.jm_class.specs.Layouts.{Number, U2, listed, reading}
 use Rattle.jm_class.proofs.ReadingLaws.{bytes_all}
 use Rattle.jm_strip.specs.Strip.{stays, strip_method}
 use Rattle.jm_strip.specs.Walks.{nothing}
@@ -12,9 +12,9 @@ use Rattle.jm_strip.proofs.stripping.strip_class.Goals as goal
 
 pub overflow_sub-bytes : goal.overflow_sub-bytes
 overflow_sub-bytes c =
-    let i = saw nothing (list_of Short short_number c.number16-4.new.cursor) tt c.skip_interfaces.new.cursor
+    let i = saw nothing (reading Short (listed (Number U2)) c.number16-4.new.cursor) tt c.skip_interfaces.new.cursor
     c.in_ok-skip_interfaces.ensures in
-    let f = saw nothing (list_of Short (member_field c.in_ok-pool.pool false) c.skip_interfaces.new.cursor) tt
+    let f = saw nothing (reading Short (listed (member_field c.in_ok-pool.pool false)) c.skip_interfaces.new.cursor) tt
     c.skip_fields.new.cursor c.in_ok-skip_fields.ensures in
     let all = bytes_all c.args.bytes.now (λ i. (c.type_inv.bytes i).fits) in
     let front = class-front all c.requires c.in_ok-_magic.ensures c.in_ok-_minor.ensures c.in_ok-_major.ensures c.in_ok-pool.ensures
@@ -24,9 +24,9 @@ overflow_sub-bytes c =
 pub returns : goal.returns
 returns c =
     let pool = c.in_ok-pool.pool in
-    let i = saw nothing (list_of Short short_number c.number16-4.new.cursor) tt c.skip_interfaces.new.cursor
+    let i = saw nothing (reading Short (listed (Number U2)) c.number16-4.new.cursor) tt c.skip_interfaces.new.cursor
     c.in_ok-skip_interfaces.ensures in
-    let f = saw nothing (list_of Short (member_field pool false) c.skip_interfaces.new.cursor) tt c.skip_fields.new.cursor
+    let f = saw nothing (reading Short (listed (member_field pool false)) c.skip_interfaces.new.cursor) tt c.skip_fields.new.cursor
     c.in_ok-skip_fields.ensures in
     let all = bytes_all c.args.bytes.now (λ i. (c.type_inv.bytes i).fits) in
     let same = class-magic all c.requires c.in_ok-_magic.ensures c.in_ok-_minor.ensures c.in_ok-_major.ensures c.in_ok-pool.ensures
@@ -34,10 +34,10 @@ returns c =
     let ahead = class-front all c.requires c.in_ok-_magic.ensures c.in_ok-_minor.ensures c.in_ok-_major.ensures c.in_ok-pool.ensures
     c.in_ok-_access.ensures c.in_ok-_this_class.ensures c.in_ok-_super_class.ensures i.is f.is in
     let methods = saw (λ xs. c.extend.new.text.items ++ counted_text member_text (map (strip_method pool) xs))
-    (list_of Short (member_field pool true) c.skip_fields.new.cursor) c.strip_methods.new.text.items
+    (reading Short (listed (member_field pool true)) c.skip_fields.new.cursor) c.strip_methods.new.text.items
     c.strip_methods.new.cursor c.in_ok-strip_methods.ensures in
     let rest = saw (λ xs. c.strip_methods.new.text.items ++ counted_text attribute_text
-    (filter (λ (a : AttributeData). stays false pool a.name) xs)) (list_of Short (attribute_field pool false)
+    (filter (λ (a : AttributeData). stays false pool a.name) xs)) (reading Short (listed (attribute_field pool false))
     c.strip_methods.new.cursor) c.strip_attributes.new.text.items c.strip_attributes.new.cursor c.in_ok-strip_attributes.ensures in
     let m = counted_text member_text (map (strip_method pool) methods.first) in
     let a = counted_text attribute_text (filter (λ (a : AttributeData). stays false pool a.name) rest.first) in

@@ -1,39 +1,25 @@
-use Rattle.std.proofs.Common.{◌≡◌, ◌+◌, ◌<◌, ◌∷◌, List, ℕ, sym, ap, ◌∙◌, subst}
+use Rattle.std.proofs.Common.{◌≡◌, ◌+◌, ◌<◌, List, ℕ, rules}
 use Rattle.jm_form.specs.declared.trees.Holds.{Holds}
 use Rattle.jm_form.specs.declared.trees.Holds.TheVariants.{Children, Owners}
-use Rattle.jm_form.specs.declared.trees.Owner.{Owner}
 use Rattle.jm_jrt.specs.declared.child_list.Child.TheVariants as child
 use Rattle.jm_jrt.specs.declared.owners.Owned.{Owned}
-use Rattle.jm_jrt.specs.Listed.{Listed, rest_of}
 use Rattle.jm_jrt.specs.Told.{name_told, names_left, owner_told, owners_left, pair_count, word_count, word_of}
 use Rattle.jm_jrt.specs.Views.{IsFirst, owner_as}
-use Rattle.jm_jrt.proofs.PairLaws.{names_more, owners_more}
+use Rattle.jm_jrt.proofs.PairLaws.{items_more}
 use Rattle.jm_jrt.proofs.child_list.ChildList.step.Goals as goal
 
 first_name : (b content : List ℕ) (next : ℕ) (name : List ℕ) (all : Holds) → Children (names_left b content next) ≡ all
     → next < word_count content → name ≡ name_told b (word_of b content next)
     → IsFirst all (child.Entry name) (Children (names_left b content (next + 1)))
-first_name b content next name all is below same =
-    subst (λ a. IsFirst a (child.Entry name) (Children (names_left b content (next + 1)))) is
-    (names_more b content next below ∙ ap (λ (n : List ℕ). n ∷ names_left b content (next + 1)) (sym same))
+first_name b content next name all is below same = search (rules, items_more)
 
 first_owner : (b content : List ℕ) (next : ℕ) (owner : Owned) (all : Holds) → Owners (owners_left b content next) ≡ all
     → next < pair_count content → owner_as owner ≡ owner_told b content next
     → IsFirst all (child.Owner owner.empty owner.module) (Owners (owners_left b content (next + 1)))
-first_owner b content next owner all is below same =
-    subst (λ a. IsFirst a (child.Owner owner.empty owner.module) (Owners (owners_left b content (next + 1)))) is
-    (owners_more b content next below ∙ ap (λ (o : Owner). o ∷ owners_left b content (next + 1)) (sym same))
+first_owner b content next owner all is below same = search (rules, items_more)
 
 pub returns-in_ok-name-in-Words-clause-child : goal.returns-in_ok-name-in-Words-clause-child
-returns-in_ok-name-in-Words-clause-child g c =
-    let b = c.self.inside.index.bytes in
-    first_name b c.in-Words.content.now c.in-Words.next c.in_ok-name-in-Words.name c.args.self.now.rest
-    (sym (ap (rest_of b) c.in-Words.is) ∙ ap (λ (l : Listed). l.rest) c.self.view_is)
-    c.in_ok-name-in-Words.ensures.there c.in_ok-name-in-Words.ensures.name
+returns-in_ok-name-in-Words-clause-child g c = search (rules, first_name)
 
 pub returns-in_ok-empty-in-Pairs-clause-child : goal.returns-in_ok-empty-in-Pairs-clause-child
-returns-in_ok-empty-in-Pairs-clause-child g c =
-    let b = c.self.inside.index.bytes in
-    first_owner b c.in-Pairs.content.now c.in-Pairs.next c.in_ok-empty-in-Pairs.field-0 c.args.self.now.rest
-    (sym (ap (rest_of b) c.in-Pairs.is) ∙ ap (λ (l : Listed). l.rest) c.self.view_is)
-    c.in_ok-empty-in-Pairs.ensures.there c.in_ok-empty-in-Pairs.ensures.owner
+returns-in_ok-empty-in-Pairs-clause-child g c = search (rules, first_owner)
