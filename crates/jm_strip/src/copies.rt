@@ -3,7 +3,7 @@ ghost use Rattle.jm_class.specs.Classes.{u2, sized_text, rows_text};
 ghost use Rattle.jm_class.specs.ClassLayout.{name_field, rows_field};
 ghost use Rattle.jm_class.specs.Layouts.{reading};
 ghost use Rattle.jm_class.specs.Readings.{number, sized};
-ghost use Rattle.jm_class.specs.Views.{Gives, fault_at};
+ghost use Rattle.jm_class.specs.Views.{Finds, fault_at};
 ghost use Rattle.jm_strip.specs.Walks.{Puts};
 
 use crate::pool::Pool;
@@ -13,14 +13,14 @@ use jm_class::{ClassFault, Cursor};
 use jm_classout::{put16, put32};
 
 /// The name of an attribute: the number of a Utf8.
-pub fn name(cursor: &mut Cursor, pool: &Pool, missing: Missing) -> Result<u16, Or<ClassFault>>
-    ensures { Gives (λ n. n) (reading (fault_at missing) (name_field pool.now) cursor.old)
+pub fn name(cursor: &mut Cursor, pool: &Pool, missing: Missing) -> Result<u16, ClassFault>
+    ensures { Finds (λ n. n) (reading (fault_at missing) (name_field pool.now) cursor.old)
         result cursor.new }
 {
     let at = cursor.place();
     let name = number16(cursor, missing)?;
     if !pool.is_text(name) {
-        return Err(Or::Fault(ClassFault::Index(at)));
+        return Err(ClassFault::Index(at));
     }
     Ok(name)
 }

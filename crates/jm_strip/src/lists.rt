@@ -2,7 +2,6 @@ ghost use Rattle.std.specs.Prelude.{◌≤◌, ◌∷◌, [], filter, IfOk};
 ghost use Rattle.jm_class.specs.Classes.{opaque_text, counted_text};
 ghost use Rattle.jm_class.specs.ClassLayout.{opaque_field};
 ghost use Rattle.jm_class.specs.Layouts.{listed, reading};
-ghost use Rattle.jm_class.specs.Readings.{list_of};
 ghost use Rattle.jm_class.specs.Views.{Gives, fault_at};
 ghost use Rattle.jm_strip.specs.Strip.{stays};
 ghost use Rattle.jm_strip.specs.Walks.{shown, filtered, Puts};

@@ -3,7 +3,6 @@ ghost use Rattle.jm_class.specs.declared.class.ClassFault.TheVariants.{Short};
 ghost use Rattle.jm_class.specs.Classes.{attribute_text, member_text, counted_text};
 ghost use Rattle.jm_class.specs.ClassLayout.{attribute_field, member_field};
 ghost use Rattle.jm_class.specs.Layouts.{listed, reading};
-ghost use Rattle.jm_class.specs.Readings.{list_of};
 ghost use Rattle.jm_strip.specs.Strip.{strip_attribute, strip_method};
 ghost use Rattle.jm_strip.specs.Walks.{Puts};
 

@@ -3,7 +3,6 @@ ghost use Rattle.jm_class.specs.declared.class.ClassFault.TheVariants.{Short};
 ghost use Rattle.jm_class.specs.Classes.{attribute_text, counted_text, class_text};
 ghost use Rattle.jm_class.specs.ClassLayout.{attribute_field, class_fields};
 ghost use Rattle.jm_class.specs.Layouts.{listed, reading};
-ghost use Rattle.jm_class.specs.Readings.{list_of};
 ghost use Rattle.jm_class.specs.Views.{Gives};
 ghost use Rattle.jm_strip.specs.Strip.{stays, strip, StripsFor};
 ghost use Rattle.jm_strip.specs.Walks.{shown, Puts, Strips};
