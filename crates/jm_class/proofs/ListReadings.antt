@@ -14,10 +14,6 @@ abbrev pub prefixed : {F A : Type 0} → List A → Outcome F (List A) → Outco
 prefixed front (Ok r) = Ok (front ++ r.0, r.1)
 prefixed front (Err fault) = Err fault
 
-pub prefixed-none : {F A : Type 0} (outcome : Outcome F (List A)) → outcome ≡ prefixed [] outcome
-prefixed-none (Ok r) = refl
-prefixed-none (Err fault) = refl
-
 -- one item goes from what is to come to what was read
 item_moved : {F A : Type 0} (front : List A) (item : A) (outcome : Outcome F (List A))
     → prefixed front (continued outcome (λ items. value (item ∷ items))) ≡ prefixed (front ++ item ∷ []) outcome

@@ -15,7 +15,8 @@ use Rattle.jm_modinfo.specs.declared.descriptor.Opened.{Opened}
 use Rattle.jm_modinfo.specs.declared.descriptor.Provides.{Provides}
 use Rattle.jm_modinfo.specs.declared.faults.InfoFault.{InfoFault}
 use Rattle.jm_modinfo.specs.ComputedInfo.{info_of}
-use Rattle.jm_modinfo.specs.Faults.{fault_of, info_fault}
+use Rattle.jm_class.specs.Layouts.{fault_of}
+use Rattle.jm_modinfo.specs.Faults.{info_fault}
 use Rattle.jm_modinfo.proofs.InfoLaws.{info_fault-of}
 use Rattle.jm_names.specs.Names.{dotted, is_empty, is_slash}
 use Rattle.jm_packages.specs.Packages.{dotted_packages, listed, named_by, named_in, named_in_result, own_classes, slashed}

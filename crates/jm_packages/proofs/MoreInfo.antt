@@ -3,15 +3,16 @@ use Rattle.std.proofs.Common.{◌≡◌, ℕ, Bool, true, false, not, cond, List
 use Rattle.std.proofs.Common.{Option, Some, None, Result, Ok, Err, refl, ap, ◌∙◌}
 use Rattle.std.specs.Prelude.{nat_eq, nat_lt, option_map, option_and_then, if◌then◌else◌}
 use Rattle.jm_class.specs.Classes.{SlotData, Constant, Hole, ClassData, slot_at, utf8_at}
-use Rattle.jm_modinfo.proofs.LayoutLaws.{whole-stays}
+use Rattle.jm_class.specs.Layouts.{Layout, U2, Value, Number}
+use Rattle.jm_class.proofs.LayoutLaws.{Stays, same-stays, field-stays, then-stays, listed-stays, whole-stays}
 use Rattle.jm_modinfo.specs.ComputedInfo.{body_info, only_body, main_named, main_of, with_info, with_body}
 use Rattle.jm_modinfo.specs.Constants.{tag_of, number_in, named_by, named_at, version_at}
-use Rattle.jm_modinfo.specs.ModuleLayout.{InfoRow, Number, Named, Version, Held, allowed, found, info_rows, module_layout}
+use Rattle.jm_modinfo.specs.ModuleLayout.{allowed, refused, named, version, names, need, opened, provides, module_layout}
 use Rattle.jm_modinfo.specs.declared.constants.Kind.{Kind}
-use Rattle.jm_modinfo.specs.declared.constants.Kind.TheVariants.{Class}
+use Rattle.jm_modinfo.specs.declared.constants.Kind.TheVariants.{Class, Module, Package}
 use Rattle.jm_modinfo.specs.declared.descriptor.Descriptor.{Descriptor}
 use Rattle.jm_modinfo.specs.declared.faults.InfoFault.{InfoFault}
-use Rattle.jm_modinfo.specs.declared.faults.InfoFault.TheVariants.{NotModule, OldVersion}
+use Rattle.jm_modinfo.specs.declared.faults.InfoFault.TheVariants.{NotModule, OldVersion, Index, Short, Rest}
 use Rattle.jm_modinfo.specs.Flags.{is_module}
 use Rattle.jm_packages.proofs.MorePool.{slot_stays, utf8_stays}
 
@@ -49,19 +50,60 @@ module _ (pool more : List SlotData) where
       go false None found same = cc
       go false (Some text) found same = ap (option_map (λ text. Some text)) (utf8_stays pool more index text found) ∙ same
 
-  found_stays : (row : InfoRow) (n : ℕ) (a : Held row) → found pool row n ≡ Some a → found longer row n ≡ Some a
-  found_stays Number n a is = is
-  found_stays Version n a is = version_stays n a is
-  found_stays (Named kind) n a is = go (named_at pool kind n) refl is
+  allowed_stays : (kind : Kind) (n : ℕ) (text : List ℕ) → allowed kind (named_at pool kind n) ≡ Some text
+      → allowed kind (named_at longer kind n) ≡ Some text
+  allowed_stays kind n text is = go (named_at pool kind n) refl is
     where
-      go : (o : Option (List ℕ)) → named_at pool kind n ≡ o → allowed kind o ≡ Some a → allowed kind (named_at longer kind n) ≡ Some a
+      go : (o : Option (List ℕ)) → named_at pool kind n ≡ o → allowed kind o ≡ Some text → allowed kind (named_at longer kind n) ≡ Some text
       go None there none = cc
-      go (Some text) there some = ap (allowed kind) (named_stays kind n text there) ∙ some
+      go (Some other) there some = ap (allowed kind) (named_stays kind n other there) ∙ some
+
+  -- The layout
+
+  abbrev LayoutStays : {A : Type 0} → (List SlotData → Layout InfoFault A) → Type 0
+  LayoutStays layout = Stays Short (layout pool) (layout longer)
+
+  name_stays : (kind : Kind) → LayoutStays (λ pool. named pool kind)
+  name_stays kind = field-stays Short U2 _ _ (refused pool kind) (refused longer kind) (allowed_stays kind)
+
+  names_stay : (kind : Kind) → LayoutStays (λ pool. names pool kind)
+  names_stay kind = listed-stays Short _ _ (name_stays kind)
+
+  versions_stay : LayoutStays version
+  versions_stay = field-stays Short U2 _ _ (λ at n. Index at) (λ at n. Index at) version_stays
+
+  need_stays : LayoutStays need
+  need_stays =
+      then-stays Short _ _ _ _ (name_stays Module) (λ name.
+      then-stays Short _ _ _ _ (same-stays Short (Number U2)) (λ flags.
+      then-stays Short _ _ _ _ versions_stay (λ version. same-stays Short (Value _))))
+
+  opened_stays : LayoutStays opened
+  opened_stays =
+      then-stays Short _ _ _ _ (name_stays Package) (λ name.
+      then-stays Short _ _ _ _ (same-stays Short (Number U2)) (λ flags.
+      then-stays Short _ _ _ _ (names_stay Module) (λ to. same-stays Short (Value _))))
+
+  provides_stays : LayoutStays provides
+  provides_stays =
+      then-stays Short _ _ _ _ (name_stays Class) (λ service.
+      then-stays Short _ _ _ _ (names_stay Class) (λ classes. same-stays Short (Value _)))
+
+  module_stays : LayoutStays module_layout
+  module_stays =
+      then-stays Short _ _ _ _ (name_stays Module) (λ name.
+      then-stays Short _ _ _ _ (same-stays Short (Number U2)) (λ flags.
+      then-stays Short _ _ _ _ versions_stay (λ version.
+      then-stays Short _ _ _ _ (listed-stays Short _ _ need_stays) (λ needs.
+      then-stays Short _ _ _ _ (listed-stays Short _ _ opened_stays) (λ exports.
+      then-stays Short _ _ _ _ (listed-stays Short _ _ opened_stays) (λ opens.
+      then-stays Short _ _ _ _ (names_stay Class) (λ uses.
+      then-stays Short _ _ _ _ (listed-stays Short _ _ provides_stays) (λ provides. same-stays Short (Value _)))))))))
 
   -- What a class says
 
   body_stays : (bytes : List ℕ) (d : Descriptor) → body_info pool bytes ≡ Ok d → body_info longer bytes ≡ Ok d
-  body_stays bytes d is = whole-stays (info_rows pool) (info_rows longer) refl found_stays module_layout bytes d is
+  body_stays bytes d is = whole-stays Short Rest (module_layout pool) (module_layout longer) bytes d module_stays is
 
   main_stays : (bodies : List (List ℕ)) (main : Option (List ℕ)) → main_of pool bodies ≡ Ok main → main_of longer bodies ≡ Ok main
   main_stays [] main is = is
