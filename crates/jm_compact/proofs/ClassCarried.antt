@@ -1,5 +1,5 @@
 -- A class with the kept constants and new numbers: its sites, its text, and that it is well formed.
-use Rattle.std.proofs.Common.{◌≡◌, ℕ, ◌^◌, ◌<◌, true, false, List, [], ◌∷◌, ◌++◌, length, refl, length-append}
+use Rattle.std.proofs.Common.{◌≡◌, ℕ, ◌^◌, ◌<◌, true, false, List, [], ◌∷◌, ◌++◌, length, map, refl, length-append}
 use Rattle.std.proofs.lemmas.List.{drop_at}
 use Rattle.std.specs.List.{flat_map}
 use Rattle.jm_class.specs.Classes.{SlotData, ClassData, u2, u4, magic, counted_text, attribute_text}
@@ -93,30 +93,14 @@ module _ (c : ClassData) (fits : IsClass c) (bytes : IsBytes (class_text c)) (d 
       one i below = carries_told new small P (notes false i) (notes false (new i)) (notes false (new i)) (u2 i) (u2 (new i)) (P i)
           (new i < 2 ^ 16) (λ good. (new_below c.pool d new small P texts i below, λ w. refl)) (carries_notes new small P false i below)
 
-  carries_fields : Carries new small P (later 2 (each (member_step Field c.pool) c.fields))
-      (later 2 (each (member_step Field d) moved.fields)) (counted_text member_text c.fields)
-      (counted_text member_text moved.fields) (FitsCounted (IsMember d false) moved.fields)
-  carries_fields = carries_counted c.pool d new small P texts (member_step Field c.pool) (member_step Field d) member_text
-      (moved_member c.pool new Field) (λ m. IsMember c.pool false m × IsBytes (member_text m)) (IsMember d false)
-      (carries_member c.pool d new small P texts Field) c.fields fits.fields.0 (each_bytes member_text (IsMember c.pool false)
-      c.fields fits.fields.1 (counted_bytes member_text c.fields (from_methods c) field_bytes))
-
-  carries_methods : Carries new small P (later 2 (each (member_step Method c.pool) c.methods))
-      (later 2 (each (member_step Method d) moved.methods)) (counted_text member_text c.methods)
-      (counted_text member_text moved.methods) (FitsCounted (IsMember d true) moved.methods)
-  carries_methods = carries_counted c.pool d new small P texts (member_step Method c.pool) (member_step Method d) member_text
-      (moved_member c.pool new Method) (λ m. IsMember c.pool true m × IsBytes (member_text m)) (IsMember d true)
-      (carries_member c.pool d new small P texts Method) c.methods fits.methods.0 (each_bytes member_text (IsMember c.pool true)
-      c.methods fits.methods.1 (counted_bytes member_text c.methods (from_attributes c) method_bytes))
-
-  carries_attributes : Carries new small P (later 2 (each (attribute_step Class c.pool) c.attributes))
-      (later 2 (each (attribute_step Class d) moved.attributes)) (counted_text attribute_text c.attributes)
-      (counted_text attribute_text moved.attributes) (FitsCounted (IsAttribute d false) moved.attributes)
-  carries_attributes = carries_counted c.pool d new small P texts (attribute_step Class c.pool) (attribute_step Class d)
-      attribute_text (moved_attribute c.pool new Class) (λ a. IsAttribute c.pool false a × IsBytes (attribute_text a))
-      (IsAttribute d false) (carries_attribute c.pool d new small P texts Class) c.attributes fits.attributes.0
-      (each_bytes attribute_text (IsAttribute c.pool false) c.attributes fits.attributes.1 (counted_bytes attribute_text
-      c.attributes [] attribute_bytes))
+  -- items behind their count, in bytes with others behind them
+  carries_items : {A : Type 0} (step new_step : A → Step) (text : A → List ℕ) (move : A → A) (Fits Now : A → Type 0)
+      → ((a : A) → Fits a × IsBytes (text a) → Carries new small P (step a) (new_step (move a)) (text a) (text (move a)) (Now (move a)))
+      → (xs : List A) (rest : List ℕ) → FitsCounted Fits xs → IsBytes (counted_text text xs ++ rest)
+      → Carries new small P (later 2 (each step xs)) (later 2 (each new_step (map move xs))) (counted_text text xs)
+      (counted_text text (map move xs)) (FitsCounted Now (map move xs))
+  carries_items step new_step text move Fits Now one xs rest fits bytes = carries_counted c.pool d new small P texts step new_step text
+      move (λ a. Fits a × IsBytes (text a)) Now one xs fits.0 (each_bytes text Fits xs fits.1 (counted_bytes text xs rest bytes))
 
   abbrev pub AttributesHold : Type 0
   AttributesHold = FitsCounted (IsAttribute d false) moved.attributes × Unit {0}
@@ -138,17 +122,22 @@ module _ (c : ClassData) (fits : IsClass c) (bytes : IsBytes (class_text c)) (d 
       ∷ later 2 (each (attribute_step Class c.pool) c.attributes) ∷ []) (later 2 (each (member_step Method d) moved.methods)
       ∷ later 2 (each (attribute_step Class d) moved.attributes) ∷ []) (counted_text member_text c.fields)
       (counted_text member_text moved.fields) (from_methods c) (from_methods moved) (FitsCounted (IsMember d false) moved.fields) MethodsHold
-      carries_fields
+      (carries_items (member_step Field c.pool) (member_step Field d) member_text (moved_member c.pool new Field) (IsMember c.pool false)
+      (IsMember d false) (carries_member c.pool d new small P texts Field) c.fields (from_methods c) fits.fields field_bytes)
       (carries_cons new small P (later 2 (each (member_step Method c.pool) c.methods))
       (later 2 (each (member_step Method d) moved.methods)) (later 2 (each (attribute_step Class c.pool) c.attributes) ∷ [])
       (later 2 (each (attribute_step Class d) moved.attributes) ∷ []) (counted_text member_text c.methods)
       (counted_text member_text moved.methods) (from_attributes c) (from_attributes moved) (FitsCounted (IsMember d true) moved.methods)
       AttributesHold
-      carries_methods
+      (carries_items (member_step Method c.pool) (member_step Method d) member_text (moved_member c.pool new Method) (IsMember c.pool true)
+      (IsMember d true) (carries_member c.pool d new small P texts Method) c.methods (from_attributes c) fits.methods method_bytes)
       (carries_cons new small P (later 2 (each (attribute_step Class c.pool) c.attributes))
       (later 2 (each (attribute_step Class d) moved.attributes)) [] [] (counted_text attribute_text c.attributes)
       (counted_text attribute_text moved.attributes) [] [] (FitsCounted (IsAttribute d false) moved.attributes) (Unit {0})
-      carries_attributes (carries_nil new small P)))
+      (carries_items (attribute_step Class c.pool) (attribute_step Class d) attribute_text (moved_attribute c.pool new Class)
+      (IsAttribute c.pool false) (IsAttribute d false) (carries_attribute c.pool d new small P texts Class) c.attributes []
+      fits.attributes attribute_bytes)
+      (carries_nil new small P)))
 
   pub carries_class : Carries new small P (steps (passes 2 ∷ class_parts c fits)) (steps (passes 2 ∷ new_parts)) (behind_pool c)
       (behind_pool moved) (Unit {0} × (P c.this_class × (P c.super_class × InterfacesHold)))

@@ -21,6 +21,18 @@ use Rattle.jm_compact.proofs.Tokens.{changed-append, length-changed, found_from-
 -- A form may see where all began (the filling of a switch), so it is one form for each start. What
 -- may stand behind it is told by a word of the bytes that are left.
 module _ (Behind : List ℕ → Type 0) (form : ℕ → Form) where
+  -- with other numbers the form takes as many bytes of the tokens, from any start
+  abbrev pub Again : ℕ → List Token → Type 0
+  Again n tokens = (number : ℕ → ℕ) → IsSmall number → (other : ℕ) (met : List FoundSite) (more : List ℕ) → Behind more
+      → form other met (record { place = other + n; bytes = token_text (changed number tokens) ++ more })
+      ≡ Ok (
+        met ++ found_from (other + n) (changed number tokens),
+        record {
+          place = other + (n + length (token_text tokens));
+          bytes = more;
+        },
+      )
+
   -- what the form takes that stands n bytes behind its start
   pub record Told (start n : ℕ) (found : List FoundSite) (all : List ℕ) (new : List FoundSite) (next : Left) : Type 0 where
     pub tokens : List Token
@@ -29,19 +41,25 @@ module _ (Behind : List ℕ → Type 0) (form : ℕ → Form) where
     pub bytes : all ≡ token_text tokens ++ rest
     pub left : next ≡ record { place = start + (n + length (token_text tokens)); bytes = rest }
     pub sites : new ≡ found ++ found_from (start + n) tokens
-    pub again : (number : ℕ → ℕ) → IsSmall number → (other : ℕ) (met : List FoundSite) (more : List ℕ) → Behind more
-        → form other met (record { place = other + n; bytes = token_text (changed number tokens) ++ more })
-        ≡ Ok (
-          met ++ found_from (other + n) (changed number tokens),
-          record {
-            place = other + (n + length (token_text tokens));
-            bytes = more;
-          },
-        )
+    pub again : Again n tokens
 
   abbrev pub Moves : Type 0
   Moves = (start n : ℕ) (found : List FoundSite) (all : List ℕ) (new : List FoundSite) (next : Left) → IsBytes all → Behind next.bytes
       → form start found (record { place = start + n; bytes = all }) ≡ Ok (new, next) → Told start n found all new next
+
+-- the same tokens, of which another form takes as many bytes
+told_again : (Behind Other : List ℕ → Type 0) (form other : ℕ → Form) (start n : ℕ) (found : List FoundSite) (all : List ℕ)
+    (new : List FoundSite) (next : Left) (told : Told Behind form start n found all new next) → Again Other other n told.tokens
+    → Told Other other start n found all new next
+told_again Behind Other form other start n found all new next told again = record {
+  tokens = told.tokens;
+  rest = told.rest;
+  fit = told.fit;
+  bytes = told.bytes;
+  left = told.left;
+  sites = told.sites;
+  again = again;
+}
 
 -- anything may stand behind, or nothing
 abbrev pub Anything : List ℕ → Type 0
@@ -85,15 +103,8 @@ module _ (Behind : List ℕ → Type 0) where
   pub anything_moves : (form : ℕ → Form) → Moves Anything form → Moves Behind form
   anything_moves form law start n found all new next bytes behind e =
       let told = law start n found all new next bytes tt e in
-      record {
-        tokens = told.tokens;
-        rest = told.rest;
-        fit = told.fit;
-        bytes = told.bytes;
-        left = told.left;
-        sites = told.sites;
-        again = λ number small other met more behind. told.again number small other met more tt;
-      }
+      told_again Anything Behind form form start n found all new next told (λ number small other met more behind.
+      told.again number small other met more tt)
 
   -- nothing is taken
   pub value_moves : Moves Behind (λ _ found. value found)
@@ -305,18 +316,11 @@ by_size_moves form law start n found all new next bytes behind e = go (law (leng
         ∙ ap length (sym (append-nil (token_text told.tokens)))
         ∙ ap (λ t. length (token_text told.tokens ++ t)) (sym none)
         ∙ ap length (sym told.bytes) in
-        record {
-          tokens = told.tokens;
-          rest = told.rest;
-          fit = told.fit;
-          bytes = told.bytes;
-          left = told.left;
-          sites = told.sites;
-          again = λ number small other met more ends.
-              ap (λ k. form k other met (record { place = other + n; bytes = token_text (changed number told.tokens) ++ more }))
-              (size number more ends)
-              ∙ told.again number small other met more ends;
-        }
+        told_again Nothing Nothing (form (length all)) (λ start found left. form (length left.bytes) start found left) start n found all
+        new next told (λ number small other met more ends.
+        ap (λ k. form k other met (record { place = other + n; bytes = token_text (changed number told.tokens) ++ more }))
+        (size number more ends)
+        ∙ told.again number small other met more ends)
 
 if_moves : (test : Bool) (form other : ℕ → Form) → Moves Nothing form → Moves Nothing other
     → Moves Nothing (λ start found left. cond test (form start found left) (other start found left))

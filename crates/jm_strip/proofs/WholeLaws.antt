@@ -10,7 +10,7 @@ use Rattle.jm_class.specs.Classes.{ClassData, class_text, ReadsAs}
 use Rattle.jm_class.specs.ClassLayout.{class_fields, class_of}
 use Rattle.jm_class.specs.Layouts.{reading, fault_of, value_of}
 use Rattle.jm_class.specs.Readings.{Left}
-use Rattle.jm_class.specs.Releases.{newest_major, release_fault, class_for}
+use Rattle.jm_class.specs.Releases.{newest_major, release_fault, class_for, fault_for}
 use Rattle.jm_class.proofs.ClassLaws.{reads_once}
 use Rattle.jm_class.proofs.ReleaseLaws.{class_for-reads}
 use Rattle.jm_class.proofs.ReadingLaws.{IsBytes}
@@ -33,18 +33,18 @@ all_read bytes text next n e size none =
 
 -- What is due for a release
 
+-- of bytes that give no text
+strips_none : (release : ℕ) (bytes : List ℕ) (error : Or ClassFault) → ((fault : ClassFault)
+    → ◌≡◌ {A = Result (List ℕ) (Or ClassFault)} (Err error) (Err (Fault fault)) → fault_for release bytes ≡ Some fault)
+    → StripsFor release bytes (Err error)
+strips_none release bytes error fault = record { text = tt; only = tt; reads = tt; no_fault = tt; fault = fault }
+
 -- a class newer than the release is refused
 pub refused_newer : (release : ℕ) (bytes : List ℕ) (fault : ClassFault) → release_fault release bytes ≡ Some fault
     → StripsFor release bytes (Err (Fault fault))
-refused_newer release bytes fault newer = record {
-  text = tt;
-  only = tt;
-  reads = tt;
-  no_fault = tt;
-  fault = λ other is.
-      let same : fault ≡ other = cc in
-      ap (λ f. fault_of (followed (unless_fault f bytes) class_of)) newer ∙ ap (λ f. Some f) same;
-}
+refused_newer release bytes fault newer = strips_none release bytes (Fault fault) (λ other is.
+    let same : fault ≡ other = cc in
+    ap (λ f. fault_of (followed (unless_fault f bytes) class_of)) newer ∙ ap (λ f. Some f) same)
 
 -- of another it is what is due of a class of whatever release
 module _ (release : ℕ) (bytes : List ℕ) (none : release_fault release bytes ≡ None) where
@@ -66,13 +66,7 @@ module _ (release : ℕ) (bytes : List ℕ) (none : release_fault release bytes 
         no_fault = ap fault_of (same_class ∙ is);
         fault = λ fault e. cc;
       }
-  strips_other (Err (Fault found)) all is = record {
-    text = tt;
-    only = tt;
-    reads = tt;
-    no_fault = tt;
-    fault = λ fault e.
-        let same : found ≡ fault = cc in
-        ap fault_of (same_class ∙ is) ∙ ap (λ f. Some f) same;
-  }
-  strips_other (Err Memory) all is = record { text = tt; only = tt; reads = tt; no_fault = tt; fault = λ fault e. cc }
+  strips_other (Err (Fault found)) all is = strips_none release bytes (Fault found) (λ fault e.
+      let same : found ≡ fault = cc in
+      ap fault_of (same_class ∙ is) ∙ ap (λ f. Some f) same)
+  strips_other (Err Memory) all is = strips_none release bytes Memory (λ fault e. cc)
