@@ -1,5 +1,5 @@
 -- The layout of a class file (JVMS 4.1 to 4.7), with the faults of its fields (this project's rule).
--- Places are in bytes from the front of the file.
+-- Places are in bytes from the start of the file.
 use Rattle.std.specs.Prelude.{ℕ, zero, suc, ◌-◌, ◌*◌, nat_lt, Bool, true, false, ◌==◌, ◌&&◌, List}
 use Rattle.std.specs.Prelude.{[], ◌∷◌, All, Option, Some, None, is_some, Result, if◌then◌else◌}
 use Rattle.jm_class.specs.declared.class.ClassFault.{ClassFault}
@@ -14,11 +14,11 @@ use Rattle.jm_class.specs.Layouts.{IsGood, HasFirstFault}
 
 -- Constants
 
--- a tag is that of a constant; a Long or a Double needs one number more
+-- a tag is that of a constant, and that of a Long or a Double only where one number more is there
 abbrev pub is_tag_where : Bool → ℕ → Bool
 is_tag_where more tag = is_tag tag && (if is_wide tag then more else true)
 
--- the fault of a tag at a place
+-- the fault of such a tag: `Index` of a Long or a Double without its second number, else `Tag`
 abbrev pub tag_fault : ℕ → ℕ → ClassFault
 tag_fault at tag = if is_tag tag then Index at else Tag at
 
@@ -26,12 +26,13 @@ tag_fault at tag = if is_tag tag then Index at else Tag at
 abbrev pub tag_field : Bool → Layout ClassFault ℕ
 tag_field more = tested U1 (is_tag_where more) tag_fault
 
--- the body of a constant of a size; or of a Utf8: a length of two bytes, and that many bytes
+-- the body of a constant of a size; or of a Utf8: a length of two bytes, and that many bytes, which
+-- are `Short` at the place of the length where they don't fit
 abbrev pub body_of_size : Option ℕ → Layout ClassFault (List ℕ)
 body_of_size (Some size) = Bytes size
 body_of_size None = Told Short (Then (Number U2) (λ size. Bytes size))
 
--- the body behind a tag
+-- the body after a tag
 abbrev pub body_field : ℕ → Layout ClassFault (List ℕ)
 body_field tag = body_of_size (body_size tag)
 
@@ -45,19 +46,19 @@ abbrev pub is_wide_slot : SlotData → Bool
 is_wide_slot (Constant tag body) = is_wide tag
 is_wide_slot Hole = false
 
--- what takes a number of the pool: a hole where one is due, else a constant
+-- what takes a number of the pool (JVMS 4.4): a hole where one is due, else a constant
 abbrev pub slot_field : Bool → Bool → Layout ClassFault SlotData
 slot_field true more = Value Hole
 slot_field false more = constant more
 
--- that many numbers of the pool, where the first one is a hole or not
+-- what takes that many numbers of the pool; `due` says whether a hole comes first
 abbrev pub slots : ℕ → Bool → Layout ClassFault (List SlotData)
 slots zero due = Value []
 slots (suc n) due =
     Then (slot_field due (nat_lt 0 n))
     (λ slot. Then (slots n (is_wide_slot slot)) (λ slots. Value (slot ∷ slots)))
 
--- the constants behind their count, which isn't 0 and is one more than the numbers
+-- the constants after their count, which is one more than the numbers that they take, so it isn't 0
 abbrev pub pool_field : Layout ClassFault (List SlotData)
 pool_field =
     Then (tested U2 (λ count. nat_lt 0 count) (λ at count. Index at))
@@ -65,7 +66,7 @@ pool_field =
 
 -- Attributes
 
--- the name of an attribute, which is the number of a Utf8
+-- the name of an attribute: the number of a Utf8, else the fault `Index` at its place
 abbrev pub name_field : List SlotData → Layout ClassFault ℕ
 name_field pool = tested U2 (λ name. is_some (utf8_at pool name)) (λ at name. Index at)
 
@@ -75,7 +76,7 @@ opaque_field pool =
     Then (name_field pool)
     (λ name. Then sized_bytes (λ bytes. Value (record { name = name; bytes = bytes })))
 
--- the handlers of a Code: their number, and 8 bytes for each
+-- the handlers of a Code: their count, and 8 bytes for each
 abbrev pub rows_field : Layout ClassFault (List ℕ)
 rows_field = Then (Number U2) (λ count. Bytes (8 * count))
 
@@ -95,7 +96,7 @@ code_fields pool =
       attributes = attributes;
     }))))))
 
--- a Code within its length
+-- a Code within its length; `CodeLength` where it doesn't fit in it or doesn't fill it
 abbrev pub code_field : List SlotData → Layout ClassFault CodeData
 code_field pool = Sized CodeLength (code_fields pool)
 
@@ -162,7 +163,7 @@ class_fields =
       attributes = attributes;
     }))))))))))))
 
--- What follows from it
+-- What follows from the layout
 
 -- the class that some bytes read as, all of them, or their first fault
 abbrev pub class_of : List ℕ → Result ClassData ClassFault
@@ -172,10 +173,11 @@ class_of bytes = whole_text Short Rest class_fields bytes
 abbrev pub class_fault : List ℕ → Option ClassFault
 class_fault bytes = fault_of (class_of bytes)
 
--- the rule: the first field of these bytes that doesn't fit or isn't allowed has this fault
+-- the rule: the first field of these bytes that doesn't fit or isn't allowed, or the first part of
+-- which bytes are left, has this fault
 abbrev pub HasClassFault : List ℕ → ClassFault → Type 0
 HasClassFault bytes fault = HasFirstFault (text_fields Short Rest class_fields bytes) fault
 
--- no fault: each field of these bytes fits and is allowed
+-- no fault: each field of these bytes fits and is allowed, and no bytes are left
 abbrev pub HasNoClassFault : List ℕ → Type 0
 HasNoClassFault bytes = All IsGood (text_fields Short Rest class_fields bytes)

@@ -1,5 +1,6 @@
--- A layout as data: what stands from left to right, and the value that it says. From it follow what
--- bytes say, the reading that finds it, its fields, and the first fault (this project's rule).
+-- A layout as data: what stands from left to right, and the value that the bytes say by it. From it
+-- follow what bytes say, the reading that finds it, the fields, and the first fault (this project's
+-- rule).
 use Rattle.std.specs.Prelude.{◌≡◌, ◌⊎◌, ℕ, zero, suc, ◌+◌, ◌^◌, ◌<◌, ◌≤◌, nat_le, List, [], ◌∷◌, ◌++◌}
 use Rattle.std.specs.Prelude.{length, take, Option, Some, None, ok_or, Bool, Result, Ok, Err, All, if◌then◌else◌}
 use Rattle.std.specs.Int.{Width, w8, w16, w32, byte_len, to_be_bytes, from_be_bytes}
@@ -25,31 +26,33 @@ limit U1 = 2 ^ 8
 limit U2 = 2 ^ 16
 limit U4 = 2 ^ 32
 
--- what stands from left to right, and says such a value
+-- what stands from left to right, and says a value of this type
 pub data Layout (F : Type 0) : Type 0 → Type 1 where
-  -- no byte, which says this
+  -- no byte: the value is this one
   Value : {A : Type 0} (a : A) → Layout F A
   -- a number
   Number : (size : Size) → Layout F ℕ
-  -- a number, which says what is found by it; or it has a fault by its place
+  -- a number, which says what is found by it; where nothing is, it has a fault by its place and by
+  -- itself
   Field : {A : Type 0} (size : Size) (found : ℕ → Option A) (refused : ℕ → ℕ → F) → Layout F A
   -- that many bytes
   Bytes : (size : ℕ) → Layout F (List ℕ)
-  -- what doesn't fit in it has the fault of the place where it begins
+  -- as the inner one, but a field of it that doesn't fit has this fault, by the place where the
+  -- inner one begins
   Told : {A : Type 0} (fault : ℕ → F) (inner : Layout F A) → Layout F A
-  -- a length of four bytes, and a part of that many bytes that is laid out by itself: where it
-  -- doesn't fill that part, this is the fault of the place of the length
+  -- a length of four bytes, and a part of that many bytes that is laid out by itself: a field that
+  -- doesn't fit in the part, or bytes left of it, have this fault, by the place of the length
   Sized : {A : Type 0} (fault : ℕ → F) (inner : Layout F A) → Layout F A
   -- that many of one kind
   Times : {A : Type 0} (n : ℕ) (item : Layout F A) → Layout F (List A)
-  -- one behind the other, which may depend on what the first one says
+  -- one after the other, which may depend on what the first one says
   Then : {A B : Type 0} (first : Layout F A) (next : A → Layout F B) → Layout F B
 
 -- a number that passes a test, or none
 abbrev pub passing : (ℕ → Bool) → ℕ → Option ℕ
 passing test n = if test n then Some n else None
 
--- a number that passes a test; its fault by its place
+-- a number that passes a test; the fault where it doesn't, by its place and by itself
 abbrev pub tested : {F : Type 0} → Size → (ℕ → Bool) → (ℕ → ℕ → F) → Layout F ℕ
 tested size test fault = Field size (passing test) fault
 
@@ -63,14 +66,14 @@ sized_bytes = Then (Number U4) (λ size. Bytes size)
 
 -- What bytes say
 
--- each item is said by some bytes, one behind the other
+-- each item is said by some bytes, one after the other
 abbrev pub SaysEach : {A : Type 0} → (A → List ℕ → Type 0) → List A → List ℕ → Type 0
 SaysEach Says [] bytes = bytes ≡ []
 SaysEach Says (item ∷ items) bytes =
     (front : List ℕ) × (after : List ℕ) × (bytes ≡ front ++ after) × Says item front
     × SaysEach Says items after
 
--- a number fits its bytes, which are these
+-- the number fits, and these are its bytes
 abbrev pub SaysNumber : Size → ℕ → List ℕ → Type 0
 SaysNumber size n bytes = (n < limit size) × (bytes ≡ to_be_bytes (width size) n)
 
@@ -92,12 +95,12 @@ Says (Then {A} first next) b bytes =
 
 -- The reading
 
--- a value and what is left behind it, or its fault
+-- a value with what is left after it, or the fault
 abbrev pub with_left : {F A : Type 0} → Result A F → Reading F A
 with_left (Ok a) left = Ok (a, left)
 with_left (Err fault) left = Err fault
 
--- the reading of a layout, by the fault of a field at a place that doesn't fit
+-- the reading of a layout; `short` says the fault of a field that doesn't fit, by its place
 abbrev pub reading : {F A : Type 0} → (ℕ → F) → Layout F A → Reading F A
 reading short (Value a) = value a
 reading short (Number size) = number short (width size)
@@ -112,11 +115,11 @@ reading short (Sized fault inner) =
 reading short (Times n item) = counted n (reading short item)
 reading short (Then first next) = and_then (reading short first) (λ a. reading short (next a))
 
--- the front of a text
+-- a whole text, from place 0 on
 abbrev pub at_front : List ℕ → Left
 at_front bytes = record { place = 0; bytes = bytes }
 
--- what was read, without what is left behind it, or the fault
+-- what was read, without what is left after it, or the fault
 abbrev pub value_of : {F A : Type 0} → Outcome F A → Result A F
 value_of (Ok r) = Ok r.0
 value_of (Err fault) = Err fault
@@ -126,21 +129,23 @@ abbrev pub fault_of : {F A : Type 0} → Result A F → Option F
 fault_of (Ok a) = None
 fault_of (Err fault) = Some fault
 
--- what a whole text says by a layout, or its first fault; that of bytes behind it is by their place
+-- what a whole text says by a layout, or its first fault; `rest` says that of bytes that are left,
+-- by their place
 abbrev pub whole_text : {F A : Type 0} → (ℕ → F) → (ℕ → F) → Layout F A → List ℕ → Result A F
 whole_text short rest layout bytes =
     value_of (ended rest (reading short layout) (at_front bytes))
 
 -- The fields
 
--- a field in the bytes: its place, how many bytes it has, and where the part ends in which it
--- stands; its fault where it doesn't fit there, and that of what stands in it, or none. Or the end
--- of a part: the place behind what was laid out, where the part ends, the fault where these differ
+-- a field in the bytes: its place, how many bytes it has, and the place after the part in which it
+-- stands; its fault where it doesn't fit there (`missing`), and that of what stands in it, or none
+-- (`refused`). Or the end of a part: the place after what was laid out, the place after the part,
+-- and the fault where these differ (`rest`)
 pub data FieldSeen (F : Type 0) : Type 0 where
   Stands : (place size part_end : ℕ) (missing : F) (refused : Option F) → FieldSeen F
   Ends : (place part_end : ℕ) (rest : F) → FieldSeen F
 
--- the fields behind a value and what is left
+-- the fields that come next, by a value and what is left after it
 abbrev pub Following : Type 0 → Type 0 → Type 0
 Following F A = A → Left → List (FieldSeen F)
 
@@ -149,7 +154,7 @@ abbrev pub if_value : {F A : Type 0} → Result A F → Following F A → Left �
 if_value (Ok a) next left = next a left
 if_value (Err fault) next left = []
 
--- a field of that many bytes, which are judged by its place, and what follows it
+-- a field of that many bytes, judged by its place and its bytes, and what follows it
 abbrev pub field : {F A : Type 0} → (ℕ → F) → ℕ → (ℕ → List ℕ → Result A F) → Following F A → Left
     → List (FieldSeen F)
 field short size judge next left =
@@ -179,8 +184,8 @@ abbrev pub each : {F A : Type 0} → ℕ → (Following F A → Left → List (F
 each zero item next = next []
 each (suc n) item next = item (λ first. each n item (λ more. next (first ∷ more)))
 
--- the fields of a layout from left to right, and what follows by its value; behind a field that
--- doesn't fit or isn't allowed there are none
+-- the fields of a layout from left to right, and what follows by its value; after a field that
+-- doesn't fit or isn't allowed there are no more
 abbrev pub fields : {F A : Type 0} → (ℕ → F) → Layout F A → Following F A → Left
     → List (FieldSeen F)
 fields short (Value a) next = next a
@@ -210,7 +215,7 @@ text_fields short rest layout bytes =
 
 -- The first fault
 
--- a field fits its part and is allowed, or a part ends behind what was laid out
+-- a field fits its part and is allowed, or a part ends where what was laid out ends
 abbrev pub IsGood : {F : Type 0} → FieldSeen F → Type 0
 IsGood (Stands place size part_end missing refused) =
     (place + size ≤ part_end) × (refused ≡ None)

@@ -51,11 +51,11 @@ counted zero reading = value []
 counted (suc n) reading =
     and_then reading (λ item. and_then (counted n reading) (λ items. value (item ∷ items)))
 
--- a count of two bytes, and so many of one kind
+-- a count of two bytes, and that many of one kind
 abbrev pub list_of : {F A : Type 0} → (ℕ → F) → Reading F A → Reading F (List A)
 list_of short item = and_then (number short w16) (λ count. counted count item)
 
--- a length of four bytes, and so many bytes
+-- a length of four bytes, and that many bytes
 abbrev pub sized : {F : Type 0} → (ℕ → F) → Reading F (List ℕ)
 sized short = and_then (number short w32) (λ size. part short size)
 

@@ -88,9 +88,9 @@ Gives data_of outcome (Err (Fault fault)) left = outcome ≡ Err fault
 Gives data_of outcome (Err Memory) left = Unit {0}
 
 -- the same of what takes no memory
-abbrev pub Finds : {F T A : Type 0} → (T → A) → Outcome F A → Result T F → Left → Type 0
-Finds data_of outcome (Ok v) left = outcome ≡ Ok (data_of v, left)
-Finds data_of outcome (Err fault) left = outcome ≡ Err fault
+abbrev pub Reads : {F T A : Type 0} → (T → A) → Outcome F A → Result T F → Left → Type 0
+Reads data_of outcome (Ok v) left = outcome ≡ Ok (data_of v, left)
+Reads data_of outcome (Err fault) left = outcome ≡ Err fault
 
 -- the class that the bytes read as, or their first fault
 abbrev pub ReadsClass : List ℕ → Result Class (Or ClassFault) → Type 0

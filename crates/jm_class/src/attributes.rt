@@ -4,7 +4,7 @@ ghost use Rattle.jm_class.specs.ClassLayout.{name_field, opaque_field, code_fiel
 ghost use Rattle.jm_class.specs.ClassLayout.{code_field, attribute_field};
 ghost use Rattle.jm_class.specs.Layouts.{reading, listed};
 ghost use Rattle.jm_class.specs.declared.class.ClassFault.TheVariants.{Short};
-ghost use Rattle.jm_class.specs.Views.{Finds, Gives, fault_at, pool_of, opaque_of, code_of};
+ghost use Rattle.jm_class.specs.Views.{Reads, Gives, fault_at, pool_of, opaque_of, code_of};
 ghost use Rattle.jm_class.specs.Views.{attribute_of};
 
 use crate::class::{Attribute, Body, ClassFault, Code, Plain, Slot};
@@ -26,7 +26,7 @@ fn is_code(pool: &[Slot], name: u16) -> bool
 
 /// The name of an attribute: the number of a Utf8.
 fn name(cursor: &mut Cursor, pool: &[Slot], missing: Missing) -> Result<u16, ClassFault>
-    ensures { Finds (λ n. n) (reading (fault_at missing) (name_field (pool_of pool.now)) cursor.old)
+    ensures { Reads (λ n. n) (reading (fault_at missing) (name_field (pool_of pool.now)) cursor.old)
         result cursor.new }
 {
     let at = cursor.place();

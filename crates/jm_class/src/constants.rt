@@ -4,7 +4,7 @@ ghost use Rattle.jm_class.specs.ClassLayout.{tag_field, body_field, slot_field, 
 ghost use Rattle.jm_class.specs.ClassLayout.{is_wide_slot};
 ghost use Rattle.jm_class.specs.Layouts.{reading};
 ghost use Rattle.jm_class.specs.declared.class.ClassFault.TheVariants.{Short};
-ghost use Rattle.jm_class.specs.Views.{Finds, Gives, slot_of, pool_of};
+ghost use Rattle.jm_class.specs.Views.{Reads, Gives, slot_of, pool_of};
 
 use crate::class::{ClassFault, Slot};
 use crate::cursor::Cursor;
@@ -37,7 +37,7 @@ fn is_wide(tag: u8) -> bool
 
 /// The tag of a constant. A Long or a Double needs one number more.
 fn tag(cursor: &mut Cursor, more: bool) -> Result<u8, ClassFault>
-    ensures { Finds (λ tag. tag) (reading Short (tag_field more) cursor.old) result cursor.new }
+    ensures { Reads (λ tag. tag) (reading Short (tag_field more) cursor.old) result cursor.new }
 {
     let at = cursor.place();
     let tag = cursor.u8().ok_or(Missing::Here.fault(at))?;
@@ -52,7 +52,7 @@ fn tag(cursor: &mut Cursor, more: bool) -> Result<u8, ClassFault>
 
 /// What stands behind a tag. A Utf8 that doesn't fit is short at its length.
 fn body<'a>(cursor: &mut Cursor<'a>, tag: u8) -> Result<&'a [u8], ClassFault>
-    ensures { Finds (λ body. body.now) (reading Short (body_field tag) cursor.old)
+    ensures { Reads (λ body. body.now) (reading Short (body_field tag) cursor.old)
         result cursor.new }
 {
     match body_size(tag) {
@@ -67,7 +67,7 @@ fn body<'a>(cursor: &mut Cursor<'a>, tag: u8) -> Result<&'a [u8], ClassFault>
 
 /// A number of the pool: a hole where one is due, else a constant.
 pub fn slot<'a>(cursor: &mut Cursor<'a>, due: bool, more: bool) -> Result<Slot<'a>, ClassFault>
-    ensures { Finds slot_of (reading Short (slot_field due more) cursor.old) result cursor.new }
+    ensures { Reads slot_of (reading Short (slot_field due more) cursor.old) result cursor.new }
 {
     if due {
         return Ok(Slot::Hole);

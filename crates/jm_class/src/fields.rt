@@ -1,7 +1,7 @@
 ghost use Rattle.std.specs.Prelude.{◌≡◌};
 ghost use Rattle.std.specs.Int.{w16, w32};
 ghost use Rattle.jm_class.specs.Readings.{number, part, sized, inner_part};
-ghost use Rattle.jm_class.specs.Views.{fault_at, Finds};
+ghost use Rattle.jm_class.specs.Views.{fault_at, Reads};
 
 use crate::class::ClassFault;
 use crate::cursor::Cursor;
@@ -29,7 +29,7 @@ impl Missing {
 
 /// A number of two bytes.
 pub fn number16(cursor: &mut Cursor, missing: Missing) -> Result<u16, ClassFault>
-    ensures { Finds (λ n. n) (number (fault_at missing) w16 cursor.old) result cursor.new }
+    ensures { Reads (λ n. n) (number (fault_at missing) w16 cursor.old) result cursor.new }
 {
     let at = cursor.place();
     cursor.u16().ok_or(missing.fault(at))
@@ -37,7 +37,7 @@ pub fn number16(cursor: &mut Cursor, missing: Missing) -> Result<u16, ClassFault
 
 /// A number of four bytes.
 pub fn number32(cursor: &mut Cursor, missing: Missing) -> Result<u32, ClassFault>
-    ensures { Finds (λ n. n) (number (fault_at missing) w32 cursor.old) result cursor.new }
+    ensures { Reads (λ n. n) (number (fault_at missing) w32 cursor.old) result cursor.new }
 {
     let at = cursor.place();
     cursor.u32().ok_or(missing.fault(at))
@@ -45,7 +45,7 @@ pub fn number32(cursor: &mut Cursor, missing: Missing) -> Result<u32, ClassFault
 
 /// So many bytes.
 pub fn part<'a>(cursor: &mut Cursor<'a>, n: usize, missing: Missing) -> Result<&'a [u8], ClassFault>
-    ensures { Finds (λ p. p.now) (part (fault_at missing) n cursor.old) result cursor.new }
+    ensures { Reads (λ p. p.now) (part (fault_at missing) n cursor.old) result cursor.new }
 {
     let at = cursor.place();
     cursor.part(n).ok_or(missing.fault(at))
@@ -53,7 +53,7 @@ pub fn part<'a>(cursor: &mut Cursor<'a>, n: usize, missing: Missing) -> Result<&
 
 /// A length of four bytes, and so many bytes.
 pub fn sized<'a>(cursor: &mut Cursor<'a>, missing: Missing) -> Result<&'a [u8], ClassFault>
-    ensures { Finds (λ p. p.now) (sized (fault_at missing) cursor.old) result cursor.new }
+    ensures { Reads (λ p. p.now) (sized (fault_at missing) cursor.old) result cursor.new }
 {
     let size = number32(cursor, missing)?;
     part(cursor, size as usize, missing)
@@ -65,7 +65,7 @@ pub fn inner<'a>(
     n: usize,
     missing: Missing,
 ) -> Result<Cursor<'a>, ClassFault>
-    ensures { Finds (λ inner. inner) (inner_part (fault_at missing) n cursor.old)
+    ensures { Reads (λ inner. inner) (inner_part (fault_at missing) n cursor.old)
         result cursor.new }
 {
     let at = cursor.place();

@@ -3,7 +3,7 @@ ghost use Rattle.jm_class.specs.Classes.{utf8_at};
 ghost use Rattle.jm_class.specs.ClassLayout.{magic_field, major_field, class_fields};
 ghost use Rattle.jm_class.specs.Layouts.{reading};
 ghost use Rattle.jm_class.specs.Releases.{IsReadFor};
-ghost use Rattle.jm_class.specs.Views.{Finds, Gives, ReadsClass, plain};
+ghost use Rattle.jm_class.specs.Views.{Reads, Gives, ReadsClass, plain};
 ghost use Rattle.jm_class.specs.declared.class.ClassFault.TheVariants.{Short};
 
 use crate::attributes::attributes;
@@ -20,7 +20,7 @@ pub const MAGIC: u32 = 0xCAFE_BABE;
 
 /// The magic.
 pub fn magic(cursor: &mut Cursor) -> Result<u32, ClassFault>
-    ensures { Finds (λ n. n) (reading Short magic_field cursor.old) result cursor.new }
+    ensures { Reads (λ n. n) (reading Short magic_field cursor.old) result cursor.new }
 {
     let found = number32(cursor, Missing::Here)?;
     if found != MAGIC {
@@ -31,7 +31,7 @@ pub fn magic(cursor: &mut Cursor) -> Result<u32, ClassFault>
 
 /// The major version.
 pub fn major(cursor: &mut Cursor) -> Result<u16, ClassFault>
-    ensures { Finds (λ n. n) (reading Short major_field cursor.old) result cursor.new }
+    ensures { Reads (λ n. n) (reading Short major_field cursor.old) result cursor.new }
 {
     let major = number16(cursor, Missing::Here)?;
     if major < 45 || 69 < major {

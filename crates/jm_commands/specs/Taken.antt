@@ -1,5 +1,4 @@
--- How many bytes of its image a run takes from the shelf (promise reads-what-it-needs; this
--- project's rule).
+-- How many bytes of its image a run takes from the shelf (this project's rule).
 use Rattle.std.specs.Prelude.{ℕ, ◌+◌, ◌≡◌, ◌≤◌, List, Option, Some, None, Result, Ok, Err}
 use Rattle.jm_form.specs.declared.damage.Damage.{Damage}
 use Rattle.jm_form.specs.Damages.{first_damage}

@@ -13,7 +13,7 @@ content_of None = []
 content_of (Some found) = found.1
 
 -- the answer says whether there is an entry, and its content was put; where the put failed, there
--- is one, and a front of its content was put, or nothing of it after want of memory
+-- is one, and a prefix of its content was put, or nothing of it after want of memory
 pub record CatDoes (found : Option (Row × List ℕ)) (answer : Result Bool SinkError)
     (out new_out : Seen (List ℕ)) : Type 0 where
   pub there : IfOk answer (λ there. there ≡ is_some found)

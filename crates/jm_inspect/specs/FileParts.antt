@@ -15,31 +15,31 @@ use Rattle.jm_inspect.specs.declared.stop.Stop.{Stop}
 use Rattle.jm_inspect.specs.declared.stop.Stop.TheVariants as stop
 use Rattle.jm_inspect.specs.Works.{HasFile}
 
--- the file of a path has so many bytes, or none is there
+-- the file of a path has that many bytes, or none is there
 abbrev pub HasLength : Option Files → List ℕ → Option ℕ → Type 0
 HasLength told path size = Shows told (λ files. size ≡ file_length files path)
 
--- these are the bytes of the file of a path from a place on, at most so many
+-- these are the bytes of the file of a path from a place on, at most that many
 abbrev pub HasPart : Option Files → List ℕ → ℕ → ℕ → List ℕ → Type 0
 HasPart told path at count bytes = Shows told (λ files. Some bytes ≡ file_part files path at count)
 
--- these are so many bytes of the file of a path from a place on
+-- these are that many bytes of the file of a path from a place on
 abbrev pub IsPart : Option Files → List ℕ → ℕ → ℕ → List ℕ → Type 0
 IsPart told path at count bytes = (length bytes ≡ count) × HasPart told path at count bytes
 
--- the file of a path hasn't so many bytes from a place on, or isn't there
+-- the file of a path hasn't that many bytes from a place on, or isn't there
 abbrev pub LacksPart : Option Files → List ℕ → ℕ → ℕ → Type 0
 LacksPart told path at count =
     Shows told (λ files. (bytes : List ℕ) → Some bytes ≡ file_part files path at count
     → length bytes ≢ count)
 
--- the file of a path has so many bytes and begins with these, which are 28, or all
+-- the file of a path has that many bytes and begins with these, which are 28, or all
 pub record IsHeadOf (told : Option Files) (path head : List ℕ) (size : ℕ) : Type 0 where
   pub size_is : HasLength told path (Some size)
   pub length_is : length head ≡ min size 28
   pub begins : HasPart told path 0 (length head) head
 
--- the file of a path has so many bytes and begins with these, which are its index and no more, if
+-- the file of a path has that many bytes and begins with these, which are its index and no more, if
 -- it has a header
 pub record IsFrontOf (told : Option Files) (path front : List ℕ) (size : ℕ) : Type 0 where
   pub size_is : HasLength told path (Some size)
@@ -47,13 +47,13 @@ pub record IsFrontOf (told : Option Files) (path front : List ℕ) (size : ℕ) 
   pub holds : HoldsIndex front size
   pub ends : (h : Header) → header_with front size ≡ Ok h → length front ≡ index_length h
 
--- a file, which is that of the path where the files are told, has so many bytes and begins with
+-- a file, which is that of the path where the files are told, has that many bytes and begins with
 -- these
 abbrev pub HasFront : Option Files → List ℕ → List ℕ → ℕ → Type 0
 HasFront told path front size =
     (b : List ℕ) × HasFile told path (Some b) × IsFileOf front size b
 
--- these are some bytes with so many of the file's behind them
+-- these are some bytes with that many of the file's after them
 abbrev pub Adds : Option Files → List ℕ → List ℕ → ℕ → List ℕ → Type 0
 Adds told path old count new =
     (more : List ℕ) × (new ≡ old ++ more) × (length more ≡ count)
@@ -84,7 +84,7 @@ abbrev pub ReadsPart : Option Files → List ℕ → ℕ → ℕ → Result (Lis
 ReadsPart told path at count result =
     Comes path (λ bytes. IsPart told path at count bytes) (LacksPart told path at count) result
 
--- what reading more of a file comes to, behind its first bytes
+-- what reading more of a file comes to, after its first bytes
 abbrev pub ReadsMore : Option Files → List ℕ → List ℕ → ℕ → List ℕ → Result (Unit {0}) Stop
     → Type 0
 ReadsMore told path old count new result =
@@ -104,7 +104,8 @@ ReadsFront told path result =
 
 -- What opening an image comes to
 
--- the index of an image that is open, and the path of its file
+-- the front of a file whose image is open, which is its first bytes with its length, and the path
+-- of the file: what clauses see of the code's `OpenFront`
 pub record OpenIndex : Type 0 where
   pub front : Front
   pub path : List ℕ

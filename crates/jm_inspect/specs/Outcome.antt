@@ -60,7 +60,7 @@ done output = record {
   session = None;
 }
 
--- the outcome of files that are made, and of an output behind them
+-- the outcome of files that are made, and of an output after them
 abbrev pub made_and_put : Writes → List ℕ → Outcome
 made_and_put writes output = record {
   status = status.Done;
@@ -96,7 +96,7 @@ not_there text = refused status.NotThere (codes "not there: " ++ shown_text text
 abbrev pub refusing : Refusal → Outcome
 refusing refusal = refused status.Refused (codes "refused: " ++ refusal_text refusal)
 
--- what a folder of `ls` comes to whose node has a bad content at this place
+-- what `ls` comes to where the folder's node has a bad content, at this place
 abbrev pub bad_node : ℕ → Outcome
 bad_node at = refused status.Damaged (codes "damaged: BadNode " ++ decimal at)
 

@@ -8,7 +8,7 @@ use Rattle.jm_inspect.specs.declared.pieces.Pieces.{Pieces}
 use Rattle.jm_inspect.specs.Sinks.{Seen, Gets, GetsFront}
 use Rattle.jm_inspect.specs.World.{sink_at}
 
--- the sink got the whole text; a front of it where that failed, and its count rose where the
+-- the sink got the whole text; a prefix of it where that failed, and its count rose where the
 -- outside failed
 pub record PutsText (text : List ℕ) (answer : Result (Unit {0}) SinkError)
     (out new_out : Seen (List ℕ)) : Type 0 where
@@ -17,19 +17,20 @@ pub record PutsText (text : List ℕ) (answer : Result (Unit {0}) SinkError)
   pub faults : CountsFaults out.faults new_out.faults (IsOk answer)
       (IsErrOf answer sink_error.Failed)
 
--- a text that is put piece by piece: what is held back of it, and the sink, which has a name
+-- a text that is put piece by piece: what is held back of it, and the sink, with the name of its
+-- borrow
 pub record Piecewise : Type 0 where
   pub held : List ℕ
   pub out : Seen (List ℕ)
   pub name : ℕ
 
--- more came behind what was held back: the sink got the first of both, and the others are held back
--- now
+-- more came after what was held back: the sink got a prefix of both together, and the rest is held
+-- back now
 abbrev pub Passes : (more : List ℕ) → (old new : Piecewise) → Type 0
 Passes more old new =
     (got : List ℕ) × Gets got old.out new.out × (old.held ++ more ≡ got ++ new.held)
 
--- what is held back and more were passed on; where that failed, the sink got a front of both
+-- what is held back and more were passed on; where that failed, the sink got a prefix of both
 pub record Passing (more : List ℕ) (answer : Result (Unit {0}) SinkError) (old new : Piecewise)
     : Type 0 where
   pub passed : OnOk answer (Passes more old new)
@@ -38,7 +39,7 @@ pub record Passing (more : List ℕ) (answer : Result (Unit {0}) SinkError) (old
       (IsErrOf answer sink_error.Failed)
   pub same : new.name ≡ old.name
 
--- what is seen of it
+-- what clauses see of the code's `Pieces`
 abbrev pub piecewise : {O : Type 0} → SinkGhosts O → Pieces O → Piecewise
 piecewise as_sink pieces = record {
   held = pieces.held.now.items;
@@ -46,7 +47,7 @@ piecewise as_sink pieces = record {
   name = pieces.out.ghost_name;
 }
 
--- more was passed on
+-- the same of the code's `Pieces`
 abbrev pub PassesOn
     : {O : Type 0} → SinkGhosts O → List ℕ → Result (Unit {0}) SinkError → (old new : Pieces O)
     → Type 0

@@ -15,10 +15,10 @@ seen told faults = record { told = told; faults = faults }
 abbrev pub Failed : {A : Type 0} → Seen A → Seen A → Type 0
 Failed old new = Rose old.faults new.faults
 
--- the sink got this text behind what it had
+-- the sink got this text after what it had
 abbrev pub Gets : List ℕ → Seen (List ℕ) → Seen (List ℕ) → Type 0
 Gets text old new = new.told ≡ option_map (λ put. put ++ text) old.told
 
--- the sink got a front of this text behind what it had
+-- the sink got a prefix of this text after what it had
 abbrev pub GetsFront : List ℕ → Seen (List ℕ) → Seen (List ℕ) → Type 0
 GetsFront text old new = Told old.told new.told (λ before after. PutsFront before after text)

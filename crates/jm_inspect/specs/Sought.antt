@@ -15,7 +15,7 @@ use Rattle.jm_inspect.specs.FileParts.{Comes, IsPart, LacksPart}
 abbrev pub LookUp : Type 0
 LookUp = List ℕ → Option (Row × List ℕ)
 
--- in each file of a front a look-up finds this row and its content, or nothing
+-- in each file that begins with this front a look-up finds this row and its content, or nothing
 pub record Seeks (sought : LookUp) (front : Front) (row : Option Row) : Type 0 where
   pub found : (b : List ℕ) → IsFileOf front.bytes front.length b
       → row ≡ option_map (λ found. found.0) (sought b)
@@ -23,7 +23,8 @@ pub record Seeks (sought : LookUp) (front : Front) (row : Option Row) : Type 0 w
       → IfSome row (λ row. sought b ≡ Some (row, content_of (contents b (head b)) row))
   pub sound : IfSome row (SoundIn front)
 
--- the content of a row begins at this place of each file of a front, and ends within it
+-- in each file that begins with this front the content of a row begins at this place, and ends
+-- within the file
 pub record BeginsAt (front : Front) (row : Row) (place : ℕ) : Type 0 where
   pub within : (b : List ℕ) → IsFileOf front.bytes front.length b
       → place + row.size ≤ front.length

@@ -38,7 +38,7 @@ Answers due (Err (stop.Complaint complaint)) =
 Answers due (Err stop.Outside) = Unit {0}
 Answers due (Err stop.Memory) = Unit {0}
 
--- the output is whole, but a front of it where the outside failed or no memory was found
+-- the output is whole, but a prefix of it where the outside failed or no memory was found
 abbrev pub Outputs : Result (Unit {0}) Stop → List ℕ → Seen (List ℕ) → Seen (List ℕ) → Type 0
 Outputs (Ok _) output old new = Gets output old new
 Outputs (Err (stop.Complaint complaint)) output old new = Gets output old new
@@ -65,7 +65,8 @@ IsFailure (Err (stop.Complaint complaint)) = ⊥
 IsFailure (Err stop.Outside) = Unit {0}
 IsFailure (Err stop.Memory) = Unit {0}
 
--- the output is put behind all files: they stand whole, under their own names, or nothing was put
+-- the output is put after all files were made: they stand whole, under their own names, or nothing
+-- was put
 abbrev pub FilesFirst : Writes → World → World → Type 0
 FilesFirst writes old new =
     StandAll writes old.shelf new.shelf ⊎ (new.out.told ≡ old.out.told)
@@ -115,7 +116,7 @@ AnswersAll due (Err (stop.Complaint complaint)) = due ≡ outcome_of complaint
 AnswersAll due (Err stop.Outside) = due ≡ done due.output
 AnswersAll due (Err stop.Memory) = Unit {0}
 
--- what a step does that only puts to the output; memory may run out behind a part of an output that
+-- what a step does that only puts to the output; memory may run out after a part of an output that
 -- is due
 pub record PutDoes (due : Outcome) (answer : Result (Unit {0}) Stop)
     (out new_out : Seen (List ℕ)) : Type 0 where
@@ -125,13 +126,13 @@ pub record PutDoes (due : Outcome) (answer : Result (Unit {0}) Stop)
   pub kept : IsOk answer → new_out.faults ≡ out.faults
   pub memory : answer ≡ Err stop.Memory → (due ≡ done due.output) ⊎ (new_out.told ≡ out.told)
 
--- a text of each file that begins with this front is put, which is due
+-- whatever file begins with this front, its text is due, and is put
 abbrev pub PutsOfFront
     : Front → (List ℕ → List ℕ) → Result (Unit {0}) Stop → (out new_out : Seen (List ℕ)) → Type 0
 PutsOfFront front text answer out new_out =
     (b : List ℕ) → IsFileOf front.bytes front.length b → PutDoes (done (text b)) answer out new_out
 
--- what a work does on the image in the file of a path, to which the source isn't lent
+-- what a work that doesn't use the source does on the image in the file of a path; the source stays
 abbrev pub WorkDoes
     : ImageWork → List ℕ → Result (Unit {0}) Stop → (shelf new_shelf : ShelfSeen)
     → (out new_out : Seen (List ℕ)) → Type 0

@@ -15,7 +15,7 @@ use Rattle.jm_inspect.specs.declared.complaint.Complaint.TheVariants as complain
 use Rattle.jm_inspect.specs.declared.stop.Stop.{Stop}
 use Rattle.jm_inspect.specs.declared.stop.Stop.TheVariants as stop
 
--- a failed call of the outside
+-- A failed call of the outside, a session, words
 
 -- why a command stops where a call of the shelf failed
 abbrev pub stop_of_shelf : ShelfError → Stop
@@ -42,7 +42,7 @@ stop_of_session (Err (serve_error.LongLine k)) = Err (stop.Complaint (complaint.
 stop_of_session (Err serve_error.TooManyLines) = Err (stop.Complaint complaint.TooManyLines)
 stop_of_session (Err serve_error.Memory) = Err stop.Memory
 
--- why a command stops where the words were read to none
+-- why a command stops where the words make no command
 abbrev pub stop_of_words : Or WordsFault → Stop
 stop_of_words (or.Fault fault) = stop.Complaint (complaint.Words fault)
 stop_of_words or.Memory = stop.Memory

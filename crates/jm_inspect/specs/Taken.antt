@@ -1,5 +1,4 @@
--- How many bytes of its image a command takes from the shelf (promise reads-what-it-needs; this
--- project's rule).
+-- How many bytes of its image a command takes from the shelf (this project's rule).
 use Rattle.std.specs.Prelude.{ℕ, ◌+◌, ◌≡◌, ◌≤◌, List, length, Option, Some, None, Result, Ok, Err}
 use Rattle.jm_form.specs.declared.container.Header.{Header}
 use Rattle.jm_form.specs.declared.damage.Damage.{Damage}
@@ -18,16 +17,16 @@ use Rattle.jm_words.specs.declared.tasks.ImageWork.TheVariants as work
 use Rattle.jm_inspect.specs.Cat.{content_of}
 use Rattle.jm_inspect.specs.Works.{HasFile}
 
--- the first bytes that are taken, by what was read as the header: the index; 28 where there is none
+-- how many first bytes are taken, by what was read as the header: the index; 28 where there is none
 abbrev pub front_with : Result Header HeaderFault → ℕ
 front_with (Ok h) = index_length h
 front_with (Err fault) = 28
 
--- the first bytes that are taken of a file
+-- how many first bytes are taken of a file
 abbrev pub front_size : List ℕ → ℕ
 front_size b = front_with (header_of b)
 
--- bytes that are taken behind the front; none, where the file has a damage
+-- bytes that are taken after the front; none, where the file has a damage
 abbrev pub unless_damaged : Option Damage → ℕ → ℕ
 unless_damaged None more = more
 unless_damaged (Some damage) more = 0
@@ -45,7 +44,7 @@ sought_size sought b = opened_size (λ c. length (content_of (sought c))) b
 abbrev pub extract_size : Option (List (List Sign)) → List ℕ → ℕ
 extract_size include b = opened_size (λ c. taken_size c include) b
 
--- of the file of a path, if it is there, so much was taken, and nothing besides
+-- the file of a path, if it is there, has that many bytes taken of it, and nothing besides is taken
 abbrev pub TakesOf : (List ℕ → ℕ → ℕ → Type 0) → Option (List ℕ) → (old new : ℕ) → Type 0
 TakesOf Takes None old new = new ≡ old
 TakesOf Takes (Some b) old new = Takes b old new
@@ -56,18 +55,18 @@ abbrev pub TakesBy
 TakesBy told path Takes old new =
     (found : Option (List ℕ)) × HasFile told path found × TakesOf Takes found old new
 
--- at most so many bytes of it
+-- at most that many bytes of it
 abbrev pub TakesFrom : Option Files → List ℕ → (List ℕ → ℕ) → (old new : ℕ) → Type 0
 TakesFrom told path most old new =
     TakesBy told path (λ b before after. after ≤ before + most b) old new
 
--- at most so many bytes of each file that begins with this front
+-- at most that many bytes of each file that begins with this front
 abbrev pub TakesOfFront : Front → (List ℕ → ℕ) → (old new : ℕ) → Type 0
 TakesOfFront front most old new =
     (b : List ℕ) → IsFileOf front.bytes front.length b → new ≤ old + most b
 
--- the bytes that a work takes of an image without a damage, behind its front: no other work goes by
--- the front than these
+-- how many bytes a work that goes by the index takes of an image without a damage, after its front;
+-- `serve` takes the whole file, and of it this says nothing
 abbrev pub work_length : ImageWork → List ℕ → ℕ
 work_length (work.Cat name) b = length (content_of (look b name))
 work_length (work.Ls folder) b = length (content_of (node_sought b folder))

@@ -1,4 +1,4 @@
--- The lines on what a run ends with in place of its output (this project's rule).
+-- The line that the error sink gets of what a run ends with (this project's rule).
 use Rattle.std.specs.Prelude.{ℕ, List, [], ◌∷◌, ◌++◌, codes}
 use Rattle.std.specs.Fmt.{decimal}
 use Rattle.jm_form.specs.DamageText.{damage_text}

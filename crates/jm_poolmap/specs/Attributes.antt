@@ -16,12 +16,12 @@ use Rattle.jm_poolmap.specs.Items.{items}
 use Rattle.jm_poolmap.specs.Frames.{frame}
 use Rattle.jm_poolmap.specs.Instructions.{instructions}
 
--- what a body consists of: any bytes, some items, a count of one byte or of two and so many rows,
+-- what a body consists of: any bytes, some items, a count of one byte or of two and that many rows,
 -- bootstrap methods, frames, a Code
 pub data Content : Type 0 where
   Any : Content
   Items : (items : List Item) → Content
-  -- a count of one byte, or of two, and so many rows
+  -- a count of one byte, or of two, and that many rows
   ShortRows : (row : List Item) → Content
   Rows : (row : List Item) → Content
   Methods : Content

@@ -61,12 +61,12 @@ abbrev pub in_order : List Form → Form
 in_order [] found = value found
 in_order (form ∷ forms) found = and_then (form found) (in_order forms)
 
--- a count of a width, and so many of one form
+-- a count of a width, and that many of one form
 abbrev pub counted : Width → Form → Form
 counted w form found =
     and_then (number unfit w) (λ count. in_order (replicate count form) found)
 
--- a length of a width, and so many bytes, which are of this form
+-- a length of a width, and that many bytes, which are of this form
 abbrev pub sized : Width → Form → Form
 sized w form found =
     and_then (number unfit w) (λ size. whole unfit unfit size (form found))

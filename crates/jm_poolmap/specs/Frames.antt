@@ -33,7 +33,7 @@ frame_rows =
     ∷ (one 255 ∷ [], Distance ∷ Types ∷ Types ∷ [])
     ∷ []
 
--- a distance in two bytes, one type, or a count of two bytes and so many types
+-- a distance in two bytes, one type, or a count of two bytes and that many types
 abbrev pub frame_part : FramePart → Form
 frame_part Distance = skip 2
 frame_part OneType = type

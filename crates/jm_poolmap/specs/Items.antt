@@ -4,7 +4,7 @@ use Rattle.jm_poolmap.specs.declared.forms.Item.{Item}
 use Rattle.jm_poolmap.specs.declared.forms.Item.TheVariants.{Bytes, Site, OptionalSite, ByteSite}
 use Rattle.jm_poolmap.specs.Forms.{Form, skip, site, optional_site, byte_site, in_order}
 
--- so many bytes, or a site, as a form
+-- that many bytes, or a site, as a form
 abbrev pub item_form : Item → Form
 item_form (Bytes n) = skip n
 item_form Site = site

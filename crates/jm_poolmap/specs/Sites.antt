@@ -24,7 +24,8 @@ abbrev pub member : place.Place → List SlotData → Form
 member place pool =
     in_order (skip 2 ∷ site ∷ site ∷ counted w16 (attribute place pool) ∷ [])
 
--- a class: magic and versions, the constants, the flags, the class and the one above, and the rest
+-- a class: magic and versions, the constants, the flags, the class and the one above, the
+-- interfaces, the fields, the methods, the attributes
 abbrev pub class : List SlotData → Form
 class pool = in_order (
     skip 8 ∷ skip (length (pool_text pool)) ∷ skip 2 ∷ site ∷ optional_site
@@ -32,7 +33,7 @@ class pool = in_order (
     ∷ counted w16 (member Field pool) ∷ counted w16 (member Method pool)
     ∷ counted w16 (attribute Class pool) ∷ [])
 
--- what a form that takes all bytes has met, or none where the bytes aren't of the form
+-- the sites that a form met, where it takes all bytes; else none
 abbrev pub met : Outcome NoForm (List FoundSite) → Option (List FoundSite)
 met (Ok r) = Some r.0
 met (Err fault) = None
@@ -43,8 +44,8 @@ found_in c = met (ended unfit (class c.pool []) (record { place = 0; bytes = cla
 
 -- Constants
 
--- how constants name others, by their tags: how far they are above those that name nothing, and
--- where in a body the numbers of others stand, two bytes each
+-- how constants name others, by their tags (JVMS 4.4): their rank, which is above that of all that
+-- they name, and where in a body the numbers of others stand, two bytes each
 abbrev pub naming_rows : Rows (ℕ × List ℕ)
 naming_rows =
     ((7, 8) ∷ one 16 ∷ (19, 20) ∷ [], (1, 0 ∷ []))
@@ -54,11 +55,11 @@ naming_rows =
     ∷ (one 15 ∷ [], (3, 1 ∷ []))
     ∷ []
 
--- the row of a tag; one without a row names nothing
+-- the row of a tag; a constant of a tag without a row names nothing, and has the rank 0
 abbrev pub naming : ℕ → ℕ × List ℕ
 naming tag = unwrap_or (row_of naming_rows tag) (0, [])
 
--- how far a constant is above those that name nothing, by its tag
+-- the rank of a constant, by its tag
 abbrev pub rank : ℕ → ℕ
 rank tag = (naming tag).0
 
@@ -66,7 +67,7 @@ rank tag = (naming tag).0
 abbrev pub name_places : ℕ → List ℕ
 name_places tag = (naming tag).1
 
--- the same as sites, each of two bytes
+-- the same as sites, each of two bytes, whose places are those in the body
 abbrev pub name_sites : ℕ → List Site
 name_sites tag = map (λ place. record { place = place; wide = true }) (name_places tag)
 
@@ -76,7 +77,7 @@ named_by (Constant tag body) =
     map (λ place. from_be_bytes w16 (take 2 (drop place body))) (name_places tag)
 named_by Hole = []
 
--- the rank of a constant, by its tag, or none: a hole is no constant
+-- the rank of what takes a number of the pool, or none: a hole is no constant
 abbrev pub rank_of : SlotData → Option ℕ
 rank_of (Constant tag body) = Some (rank tag)
 rank_of Hole = None
@@ -99,7 +100,7 @@ names_lower pool (Constant tag body) =
     list_all (λ index. is_some_below (rank tag) (rank_at pool index))
     (named_by (Constant tag body))
 
--- a constant has the number at a site, or it is an optional 0
+-- the number at a site is that of a constant, or a 0 that is allowed there
 abbrev pub names_constant : List SlotData → FoundSite → Bool
 names_constant pool found =
     found.optional && found.number == 0 || is_some (rank_at pool found.number)
@@ -111,7 +112,7 @@ abbrev pub site_of : FoundSite → Site
 site_of found = record { place = found.place; wide = found.wide }
 
 -- the sites that were found, or none where one of them names no constant, or a constant of the pool
--- names one that isn't of a lower rank
+-- names none, or one that isn't of a lower rank
 abbrev pub judged : List SlotData → List FoundSite → Option (List Site)
 judged pool found =
     if list_all (names_constant pool) found && list_all (names_lower pool) pool

@@ -7,7 +7,7 @@ use Rattle.jm_class.specs.declared.class.ClassFault.{ClassFault}
 use Rattle.jm_class.specs.Classes.{ClassData, class_text}
 use Rattle.jm_class.specs.ClassLayout.{class_of}
 use Rattle.jm_class.specs.Readings.{Left, Outcome}
-use Rattle.jm_class.specs.Views.{Finds, Gives}
+use Rattle.jm_class.specs.Views.{Reads, Gives}
 use Rattle.jm_strip.specs.Strip.{strip}
 
 -- a function of what was read; a fault stays
@@ -21,7 +21,7 @@ nothing a = tt
 
 -- the value is read, and nothing of it is kept
 abbrev pub Skips : {A T : Type 0} → Outcome ClassFault A → Result T ClassFault → Left → Type 0
-Skips outcome result left = Finds nothing (shown nothing outcome) result left
+Skips outcome result left = Reads nothing (shown nothing outcome) result left
 
 -- the words of the value are put behind a text
 abbrev pub Puts : {A T : Type 0} → (A → List ℕ) → Outcome ClassFault A → Result T (Or ClassFault)

@@ -3,7 +3,7 @@ ghost use Rattle.jm_class.specs.Classes.{u2, sized_text, rows_text};
 ghost use Rattle.jm_class.specs.ClassLayout.{name_field, rows_field};
 ghost use Rattle.jm_class.specs.Layouts.{reading};
 ghost use Rattle.jm_class.specs.Readings.{number, sized};
-ghost use Rattle.jm_class.specs.Views.{Finds, fault_at};
+ghost use Rattle.jm_class.specs.Views.{Reads, fault_at};
 ghost use Rattle.jm_strip.specs.Walks.{Puts};
 
 use crate::pool::Pool;
@@ -14,7 +14,7 @@ use jm_classout::{put16, put32};
 
 /// The name of an attribute: the number of a Utf8.
 pub fn name(cursor: &mut Cursor, pool: &Pool, missing: Missing) -> Result<u16, ClassFault>
-    ensures { Finds (λ n. n) (reading (fault_at missing) (name_field pool.now) cursor.old)
+    ensures { Reads (λ n. n) (reading (fault_at missing) (name_field pool.now) cursor.old)
         result cursor.new }
 {
     let at = cursor.place();
