@@ -171,11 +171,6 @@ rule-no_class_fault bytes good = go (class_fault bytes) refl
 
 -- What the code read
 
-pub class_ok : (bytes : List ℕ) (result : Result Class (Or ClassFault)) → IsBytes bytes → ReadsClass bytes result
-    → IfOk result (λ class. ReadsAs bytes (plain class))
-class_ok bytes (Ok class) all reads = class_of-reads bytes (plain class) all reads
-class_ok bytes (Err error) all reads = tt
-
 pub class_only : (bytes : List ℕ) (result : Result Class (Or ClassFault)) → ReadsClass bytes result
     → IfOk result (λ class. (other : ClassData) → ReadsAs bytes other → other ≡ plain class)
 class_only bytes (Ok class) reads = λ other also. same_ok {E = ClassFault} other (plain class)

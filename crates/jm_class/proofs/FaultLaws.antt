@@ -1,5 +1,5 @@
 -- What a reading gave agrees with the fields of a layout: where it is a value, the fields that were
--- taken are good ones, and those behind them follow; where it is a fault, that is the first one of the
+-- taken are good ones, and those after them follow; where it is a fault, that is the first one of the
 -- fields. A list of fields has one fault.
 use Rattle.std.proofs.Common.{◌≡◌, ℕ, zero, suc, ◌+◌, inl, inr, Bool, true, false, cond, List, [], ◌∷◌, ◌++◌, length, take, Option}
 use Rattle.std.proofs.Common.{Some, None, Result, Ok, Err, map, refl, sym, ap, subst, ◌∙◌, arith, append_assoc}
@@ -15,7 +15,7 @@ use Rattle.jm_class.specs.Layouts.{reading, FieldSeen, Stands, Ends, Following, 
 use Rattle.jm_class.specs.Layouts.{fields, IsGood, IsFaultOf, HasFirstFault}
 use Rattle.jm_class.specs.Readings.{Left, behind, Outcome, Reading, value, continued, part, number, counted, ended, whole}
 
--- good fields, and the rest behind them
+-- good fields, and the rest after them
 pub record Passes {F : Type 0} (fields rest : List (FieldSeen F)) : Type 0 where
   pub taken : List (FieldSeen F)
   pub good : All IsGood taken
@@ -27,7 +27,7 @@ Agrees (Ok r) fields next = Passes fields (next r.0 r.1)
 Agrees (Err fault) fields next = HasFirstFault fields fault
 
 module _ {F : Type 0} where
-  -- what agrees behind good fields agrees with all of them
+  -- what agrees after good fields agrees with all of them
   agrees_behind : {A : Type 0} (outcome : Outcome F A) (fields middle : List (FieldSeen F)) (next : Following F A)
       → Passes fields middle → Agrees outcome middle next → Agrees outcome fields next
   agrees_behind (Ok r) fields middle next one two = record {
@@ -44,7 +44,7 @@ module _ {F : Type 0} where
     bad = two.bad;
   }
 
-  -- one reading behind another
+  -- one reading after another
   then_agrees : {A B : Type 0} (outcome : Outcome F A) (more : A → Reading F B) (fields : List (FieldSeen F))
       (middle : Following F A) (next : Following F B) → Agrees outcome fields middle
       → ((a : A) (left : Left) → Agrees (more a left) (middle a left) next) → Agrees (continued outcome more) fields next
@@ -108,7 +108,7 @@ module _ {F : Type 0} where
       → Agrees (part short size left) (bytes_field short size next left) next
   bytes_agrees short size next left = field_agrees short size (λ at bytes. Ok bytes) next left _ refl
 
-  -- no byte is left behind what was read
+  -- no byte is left after what was read
   pub ended_agrees : {A : Type 0} (outcome : Outcome F A) (rest : ℕ → F) (fields : List (FieldSeen F)) (next : Following F A)
       → Agrees outcome fields (λ a left. ending rest left (next a left))
       → Agrees (continued outcome (λ a left. cond (nat_eq (length left.bytes) 0) (Ok (a, left)) (Err (rest left.place)))) fields next
@@ -146,7 +146,7 @@ module _ {F : Type 0} where
       cut_is true = refl
       cut_is false = refl
 
-  -- so many of one kind
+  -- that many of one kind
   each_agrees : {A : Type 0} (item : Reading F A) (form : Following F A → Left → List (FieldSeen F))
       → ((next : Following F A) (left : Left) → Agrees (item left) (form next left) next) → (n : ℕ) (next : Following F (List A))
       (left : Left) → Agrees (counted n item left) (each n form next left) next

@@ -1,4 +1,4 @@
--- What is read by a layout is what the bytes say, both ways, whatever stands behind it. Each law stands
+-- What is read by a layout is what the bytes say, both ways, whatever stands after it. Each law stands
 -- once, for all layouts.
 use Rattle.std.proofs.Common.{◌≡◌, ℕ, zero, suc, ◌<◌, List, [], ◌∷◌, ◌++◌, length, Option, Some, None, ok_or}
 use Rattle.std.proofs.Common.{Ok, Err, refl, sym, ap, subst, ◌∙◌, append_assoc}

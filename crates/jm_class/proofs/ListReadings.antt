@@ -22,7 +22,7 @@ item_moved front item (Ok r) =
     rw moved refl
 item_moved front item (Err fault) = refl
 
--- So many of one kind
+-- That many of one kind
 
 pub counted-next : {F A : Type 0} (count k : ℕ) (reading : Reading F A) (front : List A) (left next : Left) (item : A) → k < count
     → reading left ≡ Ok (item, next) → prefixed front (counted (count - k) reading left) ≡ prefixed (front ++ item ∷ [])
@@ -39,7 +39,7 @@ counted-stop count k reading front left fault more e =
 
 -- The numbers of a pool
 
--- one more is needed behind this number
+-- one more is needed after this number
 pub same_test : (count k : ℕ) → k < count → nat_lt 0 (count - (k + 1)) ≡ nat_lt (k + 1) count
 same_test count k more = grind (arith, nat_tests)
 

@@ -160,7 +160,7 @@ pool_cons false more Hole slots is rest = absurd is
 pool_cons true more (Constant tag body) slots is rest = absurd is
 pool_cons false more (Constant tag body) slots is rest = (is.0, rest)
 
--- behind a Long or a Double a hole stands
+-- after a Long or a Double a hole stands
 room : (b : Bool) (n : ℕ) (slots : List SlotData) → length slots ≡ n → IsPoolFrom b slots → cond b (nat_lt 0 n) true ≡ true
 room false n slots size pool = refl
 room true n [] size pool = cc

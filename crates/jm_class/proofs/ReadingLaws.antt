@@ -37,7 +37,7 @@ pub bytes_front : (xs ys : List ℕ) → IsBytes (xs ++ ys) → IsBytes xs
 bytes_front [] ys all = All-nil Byte
 bytes_front (x ∷ xs) ys all = All-cons Byte x xs (All-head Byte x (xs ++ ys) all) (bytes_front xs ys (All-tail Byte x (xs ++ ys) all))
 
--- what a reading gave, and what is read behind it
+-- what a reading gave, and what is read after it
 pub record Passed {F A B : Type 0} (outcome : Outcome F A) (next : A → Reading F B) (b : B) (after : Left) : Type 0 where
   pub first : A
   pub middle : Left
@@ -68,7 +68,7 @@ pub record Took {A : Type 0} (Says : A → List ℕ → Type 0) (left : Left) (a
   pub says : Says a front
   pub bytes : left.bytes ≡ front ++ next.bytes
 
--- a text is read back, whatever stands behind it
+-- a text is read back, whatever stands after it
 abbrev pub ReadBack : {F A : Type 0} → Reading F A → ℕ → List ℕ → A → List ℕ → Type 0
 ReadBack {F} {A} reading place text a rest = (end : ℕ) × (reading (record { place = place; bytes = text ++ rest })
     ≡ Ok (a, record { place = end; bytes = rest }))
@@ -145,7 +145,7 @@ module _ {F : Type 0} (short : ℕ → F) where
       let part = part-forth (byte_len (width size)) place (to_be_bytes (width size) n) rest is.1 in
       (part.0, rw (part.1, is.0) refl)
 
--- so many of one kind
+-- that many of one kind
 module _ {F A : Type 0} (reading : Reading F A) (Says : A → List ℕ → Type 0) where
   abbrev pub SaysMany : ℕ → List A → List ℕ → Type 0
   SaysMany n items bytes = (length items ≡ n) × SaysEach Says items bytes
@@ -187,7 +187,7 @@ module _ {F A : Type 0} (reading : Reading F A) (Says : A → List ℕ → Type 
       let second = counted-forth law n first.0 xs after rest (omega (arith, size)) more in
       (second.0, rw (is, append_assoc front after rest, first.1, second.1) refl)
 
--- what was read, where nothing is left behind it
+-- what was read, where nothing is left after it
 pub record TookAll {F A : Type 0} (reading : Reading F A) (inner : Left) (a : A) : Type 0 where
   pub end : Left
   pub is : reading inner ≡ Ok (a, end)

@@ -59,7 +59,7 @@ module _ {F A : Type 0} where
       → Lawful (Told fault inner) text Fits
   told-lawful fault inner text Fits law = record { back = law.back; forth = law.forth }
 
-  -- a part of its own behind its length
+  -- a part of its own after its length
   pub sized-lawful : (fault : ℕ → F) (inner : Layout F A) (text : A → List ℕ) (Fits : A → Type 0) → Lawful inner text Fits
       → Lawful (Sized fault inner) (λ a. sized_text (text a)) (λ a. Fits a × FitsSized (text a))
   sized-lawful fault inner text Fits law = record {
@@ -96,7 +96,7 @@ module _ {F : Type 0} where
     forth = λ xs size. (size, refl);
   }
 
--- one behind the other: c is said by its part p c and by what follows
+-- one after the other: c is said by its part p c and by what follows
 module _ {F A C : Type 0} (first : Layout F A) (next : A → Layout F C) (text : A → List ℕ) (Fits : A → Type 0) (p : C
     → A) (words : C → List ℕ) (E : C → Type 0) (G : A → C → Type 0) where
   pub then-lawful : Lawful first text Fits → ((a : A) → Fits a → Lawful (next a) words (λ c. (E c × (p c ≡ a)) × G a c))
@@ -119,7 +119,7 @@ module _ {F A C : Type 0} (first : Layout F A) (next : A → Layout F C) (text :
     );
   }
 
--- so many of one kind
+-- that many of one kind
 module _ {F A : Type 0} (item : Layout F A) (text : A → List ℕ) (Fits : A → Type 0) (law : Lawful item text Fits) where
   each_back : (xs : List A) (bytes : List ℕ) → SaysEach (Says item) xs bytes → All Fits xs × (bytes ≡ flat_map text xs)
   each_back [] bytes none = (All-nil Fits, none)
@@ -142,7 +142,7 @@ module _ {F A : Type 0} (item : Layout F A) (text : A → List ℕ) (Fits : A �
 abbrev pub Always : {A : Type 0} → A → Type 0
 Always a = Unit {0}
 
--- a length, and so many bytes; a count, and so many of one kind
+-- a length, and that many bytes; a count, and that many of one kind
 module _ {F : Type 0} where
   pub sized_bytes-lawful : Lawful {F = F} sized_bytes sized_text FitsSized
   sized_bytes-lawful =

@@ -144,7 +144,7 @@ smallest-fields : places smallest ≡ (0, 4) ∷ (4, 2) ∷ (6, 2) ∷ (8, 2) �
     (22, 2) ∷ (24, 0) ∷ []
 smallest-fields = refl
 
--- the last count doesn't fit, and nothing is told of what stands behind it
+-- the last count doesn't fit, and nothing is told of what stands after it
 cut-fields : places (take 23 smallest) ≡ (0, 4) ∷ (4, 2) ∷ (6, 2) ∷ (8, 2) ∷ (10, 2) ∷ (12, 2) ∷ (14, 2) ∷ (16, 2) ∷ (18, 2) ∷ (20, 2) ∷
     (22, 2) ∷ []
 cut-fields = refl

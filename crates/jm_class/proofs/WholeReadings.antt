@@ -1,4 +1,4 @@
--- A part that a reading takes whole, and what is left behind a reading.
+-- A part that a reading takes whole, and what is left after a reading.
 use Rattle.std.proofs.Common.{◌≡◌, ◌≢◌, ℕ, List, length, Result, Ok, Err, IsErrAnd, refl, sym, ap, subst, ◌∙◌}
 use Rattle.std.proofs.lemmas.Bool.{eq-eqb, ne_eqb}
 use Rattle.std.specs.Int.{w32}

@@ -136,13 +136,9 @@ magic_field = tested U4 (λ found. found == magic) (λ at found. Magic)
 abbrev pub major_field : Layout ClassFault ℕ
 major_field = tested U2 is_major (λ at major. Version major)
 
--- a class file
-abbrev pub class_fields : Layout ClassFault ClassData
-class_fields =
-    Then magic_field (λ found.
-    Then (Number U2) (λ minor.
-    Then major_field (λ major.
-    Then pool_field (λ pool.
+-- what stands after the pool, which says a class with these versions and this pool
+abbrev pub parts_field : ℕ → ℕ → List SlotData → Layout ClassFault ClassData
+parts_field minor major pool =
     Then (Number U2) (λ access.
     Then (Number U2) (λ this_class.
     Then (Number U2) (λ super_class.
@@ -161,7 +157,15 @@ class_fields =
       fields = fields;
       methods = methods;
       attributes = attributes;
-    }))))))))))))
+    }))))))))
+
+-- a class file
+abbrev pub class_fields : Layout ClassFault ClassData
+class_fields =
+    Then magic_field (λ found.
+    Then (Number U2) (λ minor.
+    Then major_field (λ major.
+    Then pool_field (λ pool. parts_field minor major pool))))
 
 -- What follows from the layout
 

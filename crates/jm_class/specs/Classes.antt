@@ -58,7 +58,7 @@ pub record ClassData : Type 0 where
 
 -- The bytes of a class
 
--- parts one behind another
+-- parts one after another
 abbrev pub joined : List (List ℕ) → List ℕ
 joined [] = []
 joined (part ∷ parts) = part ++ joined parts
@@ -83,20 +83,20 @@ counted_text text items = joined (u2 (length items) ∷ flat_map text items ∷ 
 abbrev pub sized_text : List ℕ → List ℕ
 sized_text bytes = joined (u4 (length bytes) ∷ bytes ∷ [])
 
--- the bytes behind a tag: the body, that of a Utf8 (tag 1) behind its length in two bytes
+-- the bytes after a tag: the body, that of a Utf8 (tag 1) after its length in two bytes
 abbrev pub body_text : ℕ → List ℕ → List ℕ
 body_text tag body = if tag == 1 then joined (u2 (length body) ∷ body ∷ []) else body
 
--- a constant's tag and what stands behind it; nothing for a hole
+-- a constant's tag and what stands after it; nothing for a hole
 abbrev pub slot_text : SlotData → List ℕ
 slot_text (Constant tag body) = joined (u1 tag ∷ body_text tag body ∷ [])
 slot_text Hole = []
 
--- the bytes of an attribute of a Code: its name's number, and its bytes behind theirs
+-- the bytes of an attribute of a Code: its name's number, and its bytes after theirs
 abbrev pub opaque_text : OpaqueData → List ℕ
 opaque_text a = joined (u2 a.name ∷ sized_text a.bytes ∷ [])
 
--- handlers, which are 8 bytes each, behind their number
+-- handlers, which are 8 bytes each, after their number
 abbrev pub rows_text : List ℕ → List ℕ
 rows_text rows = joined (u2 (length rows / 8) ∷ rows ∷ [])
 
@@ -111,7 +111,7 @@ abbrev pub held_text : BodyData → List ℕ
 held_text (Opaque bytes) = bytes
 held_text (Coded code) = code_text code
 
--- the bytes of an attribute: its name's number, and what it holds behind its length
+-- the bytes of an attribute: its name's number, and what it holds after its length
 abbrev pub attribute_text : AttributeData → List ℕ
 attribute_text a = joined (u2 a.name ∷ sized_text (held_text a.body) ∷ [])
 
@@ -124,7 +124,7 @@ member_text m = joined (
 abbrev pub magic : ℕ
 magic = 3405691582
 
--- the constants behind a count that is one more than the numbers of the pool
+-- the constants after a count that is one more than the numbers of the pool
 abbrev pub pool_text : List SlotData → List ℕ
 pool_text pool = joined (u2 (length pool + 1) ∷ flat_map slot_text pool ∷ [])
 
@@ -139,7 +139,7 @@ class_text c = joined (
 
 -- Constants
 
--- how many bytes stand behind a tag other than that of a Utf8, or none where there is no such tag
+-- how many bytes stand after a tag other than that of a Utf8, or none where there is no such tag
 abbrev pub body_size : ℕ → Option ℕ
 body_size tag =
     if tag == 3 || tag == 4 then Some 4

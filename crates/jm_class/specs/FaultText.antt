@@ -1,11 +1,11 @@
--- A class fault in print: the fault's name, and its number behind a space (this project's rule).
+-- A class fault in print: the fault's name, and its number after a space (this project's rule).
 use Rattle.std.specs.Prelude.{ℕ, ◌++◌, List, codes}
 use Rattle.std.specs.Fmt.{decimal}
 use Rattle.jm_class.specs.declared.class.ClassFault.{ClassFault}
 use Rattle.jm_class.specs.declared.class.ClassFault.TheVariants.{Magic, Version, Short, Tag, Index}
 use Rattle.jm_class.specs.declared.class.ClassFault.TheVariants.{CodeLength, Rest}
 
--- a fault in print: its name, and its place or its version behind a space
+-- a fault in print: its name, and its place or its version after a space
 abbrev pub class_fault_text : ClassFault → List ℕ
 class_fault_text Magic = codes "Magic"
 class_fault_text (Version major) = codes "Version " ++ decimal major

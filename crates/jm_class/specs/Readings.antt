@@ -1,5 +1,5 @@
 -- Readings from left to right: what stands at a place, or the first fault (this project's rule).
--- A reading is made of a few forms: a number, a part, one behind another, that many of one kind, a
+-- A reading is made of a few forms: a number, a part, one after another, that many of one kind, a
 -- part that another reading takes whole.
 use Rattle.std.specs.Prelude.{◌≡◌, ℕ, zero, suc, ◌+◌, ◌≤◌, nat_le, ◌==◌, List, [], ◌∷◌}
 use Rattle.std.specs.Prelude.{length, take, drop, Result, Ok, Err, if◌then◌else◌}
@@ -10,15 +10,15 @@ pub record Left : Type 0 where
   pub place : ℕ
   pub bytes : List ℕ
 
--- what is left behind n bytes
+-- what is left after n bytes
 abbrev pub behind : ℕ → Left → Left
 behind n left = record { place = left.place + n; bytes = drop n left.bytes }
 
--- a value and what is left behind it, or a fault
+-- a value and what is left after it, or a fault
 abbrev pub Outcome : Type 0 → Type 0 → Type 0
 Outcome F A = Result (A × Left) F
 
--- from what is left, a value and what is left behind it, or a fault
+-- from what is left, a value and what is left after it, or a fault
 abbrev pub Reading : Type 0 → Type 0 → Type 0
 Reading F A = Left → Outcome F A
 
@@ -31,7 +31,7 @@ abbrev pub continued : {F A B : Type 0} → Outcome F A → (A → Reading F B) 
 continued (Ok r) next = next r.0 r.1
 continued (Err fault) next = Err fault
 
--- one reading behind another, which may depend on what was read
+-- one reading after another, which may depend on what was read
 abbrev pub and_then : {F A B : Type 0} → Reading F A → (A → Reading F B) → Reading F B
 and_then reading next left = continued (reading left) next
 
@@ -59,7 +59,7 @@ list_of short item = and_then (number short w16) (λ count. counted count item)
 abbrev pub sized : {F : Type 0} → (ℕ → F) → Reading F (List ℕ)
 sized short = and_then (number short w32) (λ size. part short size)
 
--- no byte is left behind it; the fault by the place of the first one
+-- no byte is left after it; the fault by the place of the first one
 abbrev pub ended : {F A : Type 0} → (ℕ → F) → Reading F A → Reading F A
 ended rest reading left =
     continued (reading left)

@@ -1,5 +1,5 @@
 -- Which classes a release of Java SE takes: release N those of the major versions up to 44 + N
--- (JVMS 4.1). A class of a later release has its fault in the place of its version: behind those of
+-- (JVMS 4.1). A class of a later release has its fault in the place of its version: after those of
 -- the first eight bytes and of the magic, and before all others (this project's rule).
 use Rattle.std.specs.Prelude.{◌≡◌, ◌⊎◌, ℕ, ◌+◌, ◌≤◌, nat_le, nat_lt, ◌==◌, ◌&&◌, List, length}
 use Rattle.std.specs.Prelude.{take, drop, Option, Some, None, option_and_then, if◌then◌else◌}

@@ -32,7 +32,7 @@ pub struct Class<'a> {
 /// A number of the constant pool.
 #[derive(Clone, Copy, Debug)]
 pub enum Slot<'a> {
-    /// A constant: its tag and what stands behind it, a Utf8 without its length.
+    /// A constant: its tag and what stands after it, a Utf8 without its length.
     Constant { tag: u8, body: &'a [u8] },
     /// The second number that a Long or a Double takes.
     Hole,
@@ -125,7 +125,7 @@ impl From<ClassFault> for Or<ClassFault> {
     }
 }
 
-/// The fault's name, and its number behind a space, as `Short 22`.
+/// The fault's name, and its number after a space, as `Short 22`.
 impl fmt::Display for ClassFault {
     ghost output = { λ f. Some (class_fault_text f) };
 

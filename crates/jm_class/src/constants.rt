@@ -14,7 +14,7 @@ use std::alloc::Global;
 
 const UTF8: u8 = 1;
 
-/// How many bytes stand behind a tag; none for a Utf8 and where there is no such tag.
+/// How many bytes stand after a tag; none for a Utf8 and where there is no such tag.
 fn body_size(tag: u8) -> Option<usize>
     ensures { result ≡ body_size tag }
 {
@@ -50,7 +50,7 @@ fn tag(cursor: &mut Cursor, more: bool) -> Result<u8, ClassFault>
     Ok(tag)
 }
 
-/// What stands behind a tag. A Utf8 that doesn't fit is short at its length.
+/// What stands after a tag. A Utf8 that doesn't fit is short at its length.
 fn body<'a>(cursor: &mut Cursor<'a>, tag: u8) -> Result<&'a [u8], ClassFault>
     ensures { Reads (λ body. body.now) (reading Short (body_field tag) cursor.old)
         result cursor.new }
@@ -77,7 +77,7 @@ pub fn slot<'a>(cursor: &mut Cursor<'a>, due: bool, more: bool) -> Result<Slot<'
     Ok(Slot::Constant { tag, body })
 }
 
-/// Whether a hole is due behind a slot.
+/// Whether a hole is due after a slot.
 pub fn is_wide_slot(slot: &Slot) -> bool
     ensures { result ≡ is_wide_slot (slot_of slot.now) }
 {

@@ -43,7 +43,7 @@ pub fn number32(cursor: &mut Cursor, missing: Missing) -> Result<u32, ClassFault
     cursor.u32().ok_or(missing.fault(at))
 }
 
-/// So many bytes.
+/// That many bytes.
 pub fn part<'a>(cursor: &mut Cursor<'a>, n: usize, missing: Missing) -> Result<&'a [u8], ClassFault>
     ensures { Reads (λ p. p.now) (part (fault_at missing) n cursor.old) result cursor.new }
 {
@@ -51,7 +51,7 @@ pub fn part<'a>(cursor: &mut Cursor<'a>, n: usize, missing: Missing) -> Result<&
     cursor.part(n).ok_or(missing.fault(at))
 }
 
-/// A length of four bytes, and so many bytes.
+/// A length of four bytes, and that many bytes.
 pub fn sized<'a>(cursor: &mut Cursor<'a>, missing: Missing) -> Result<&'a [u8], ClassFault>
     ensures { Reads (λ p. p.now) (sized (fault_at missing) cursor.old) result cursor.new }
 {
@@ -59,7 +59,7 @@ pub fn sized<'a>(cursor: &mut Cursor<'a>, missing: Missing) -> Result<&'a [u8], 
     part(cursor, size as usize, missing)
 }
 
-/// So many bytes as a cursor of their own.
+/// That many bytes as a cursor of their own.
 pub fn inner<'a>(
     cursor: &mut Cursor<'a>,
     n: usize,

@@ -1,19 +1,19 @@
 ghost use Rattle.std.specs.Prelude.{◌≡◌, option_map};
 ghost use Rattle.jm_class.specs.Classes.{utf8_at};
-ghost use Rattle.jm_class.specs.ClassLayout.{magic_field, major_field, class_fields};
+ghost use Rattle.jm_class.specs.ClassLayout.{magic_field, major_field, parts_field, class_fields};
 ghost use Rattle.jm_class.specs.Layouts.{reading};
 ghost use Rattle.jm_class.specs.Releases.{IsReadFor};
-ghost use Rattle.jm_class.specs.Views.{Reads, Gives, ReadsClass, plain};
+ghost use Rattle.jm_class.specs.Views.{Reads, Gives, ReadsClass, pool_of, plain};
 ghost use Rattle.jm_class.specs.declared.class.ClassFault.TheVariants.{Short};
 
 use crate::attributes::attributes;
-use crate::class::{Class, ClassFault};
+use crate::class::{Class, ClassFault, Slot};
 use crate::constants::{pool, utf8_in};
 use crate::cursor::Cursor;
 use crate::fields::{Missing, number16, number32};
 use crate::members::{interfaces, members};
 use crate::release::{DEFAULT_RELEASE, release_fault};
-use jm_bytes::Or;
+use jm_bytes::{List, Or};
 use std::alloc::Global;
 
 pub const MAGIC: u32 = 0xCAFE_BABE;
@@ -40,21 +40,25 @@ pub fn major(cursor: &mut Cursor) -> Result<u16, ClassFault>
     Ok(major)
 }
 
-/// The fields of a class.
-fn class<'a>(alloc: Global, cursor: &mut Cursor<'a>) -> Result<Class<'a>, Or<ClassFault>>
-    ensures { Gives plain (reading Short class_fields cursor.old) result cursor.new }
+/// What stands after the pool of a class.
+fn parts<'a>(
+    alloc: Global,
+    cursor: &mut Cursor<'a>,
+    minor: u16,
+    major: u16,
+    pool: List<Slot<'a>>,
+) -> Result<Class<'a>, Or<ClassFault>>
+    ensures { Gives plain (reading Short (parts_field minor major (pool_of pool.entry)) cursor.old)
+        result cursor.new }
 {
-    let _magic = magic(cursor)?;
-    let minor = number16(cursor, Missing::Here)?;
-    let major = major(cursor)?;
-    let pool = pool(alloc, cursor)?;
     let access = number16(cursor, Missing::Here)?;
     let this_class = number16(cursor, Missing::Here)?;
     let super_class = number16(cursor, Missing::Here)?;
     let interfaces = interfaces(alloc, cursor)?;
-    let fields = members(alloc, cursor, pool.as_slice(), false)?;
-    let methods = members(alloc, cursor, pool.as_slice(), true)?;
-    let attributes = attributes(alloc, cursor, pool.as_slice(), false)?;
+    let slots = pool.as_slice();
+    let fields = members(alloc, cursor, slots, false)?;
+    let methods = members(alloc, cursor, slots, true)?;
+    let attributes = attributes(alloc, cursor, slots, false)?;
     Ok(Class {
         minor,
         major,
@@ -67,6 +71,17 @@ fn class<'a>(alloc: Global, cursor: &mut Cursor<'a>) -> Result<Class<'a>, Or<Cla
         methods,
         attributes,
     })
+}
+
+/// The fields of a class.
+fn class<'a>(alloc: Global, cursor: &mut Cursor<'a>) -> Result<Class<'a>, Or<ClassFault>>
+    ensures { Gives plain (reading Short class_fields cursor.old) result cursor.new }
+{
+    let _magic = magic(cursor)?;
+    let minor = number16(cursor, Missing::Here)?;
+    let major = major(cursor)?;
+    let pool = pool(alloc, cursor)?;
+    parts(alloc, cursor, minor, major, pool)
 }
 
 /// The class that all of some bytes are, of whatever release.
