@@ -90,7 +90,7 @@ module _ (found : List Candidate) (names : List (List ℕ × ℕ)) (roots : List
           | inr (k, text, has, uses, is) ↦ (let behind = (drawn.behind text j is).0 in absurd (omega arith))
         ]
 
--- Marks in front of a place
+-- Marks before a place
 
 pub marked_front : (flags : List Bool) (n i : ℕ) → IsMarked (take n flags) i ↔ ((i < n) × IsMarked flags i)
 marked_front flags zero i = search (rules, false≢true)
@@ -98,7 +98,7 @@ marked_front [] (suc n) i = search (rules, false≢true)
 marked_front (flag ∷ flags) (suc n) zero = search (rules)
 marked_front (flag ∷ flags) (suc n) (suc i) = search (rules, (marked_front flags n i))
 
--- the places of the marks in front of a place
+-- the places of the marks before a place
 abbrev marked_places : List Bool → ℕ → List ℕ
 marked_places flags n = filter (λ i. slice_index_or flags i false) (range_with_len 0 n)
 

@@ -1,5 +1,5 @@
 -- Modules and services as the nodes of one graph (this project's rule). The node of a module is its
--- place; that of a service lies behind those of all modules, and a table tells it.
+-- place; that of a service lies after those of all modules, and a table tells it.
 use Rattle.std.specs.Prelude.{ℕ, ◌≡◌, ◌<◌, ◌≤◌, ◌↔◌, ◌⊎◌, List, [], ◌∷◌, ◌++◌, Some, None, length}
 use Rattle.jm_closure.specs.declared.candidate.Candidate.{Candidate}
 use Rattle.jm_closure.specs.Graphs.{HasEdge}

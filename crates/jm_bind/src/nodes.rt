@@ -1,4 +1,4 @@
-//! The found modules, and behind them the services, as the nodes of one graph.
+//! The found modules, and after them the services, as the nodes of one graph.
 ghost use Rattle.std.specs.Prelude.{◌≡◌, ◌+◌, ◌<◌, Some, length, IfOk, IfSome, OnOk};
 ghost use Rattle.jm_bind.specs.Binding.{ProvidesService, UsesService};
 ghost use Rattle.jm_bind.specs.Nodes.{Below, HasNode, IsDrawn, IsGraphOfAll};

@@ -1,4 +1,4 @@
--- The text of a class as parts put one behind another, and its length.
+-- The text of a class as parts put one after another, and its length.
 use Rattle.std.proofs.Common.{◌≡◌, ℕ, ◌+◌, ◌*◌, Bool, true, false, List, [], ◌∷◌, ◌++◌, length, refl}
 use Rattle.std.proofs.Common.{sym, ◌∙◌, arith, append_assoc, length-append}
 use Rattle.std.proofs.lemmas.List.{append-nil}
@@ -9,7 +9,7 @@ use Rattle.jm_class.specs.Classes.{SlotData, Constant, Hole, ClassData, u2, join
 use Rattle.jm_class.specs.Classes.{attribute_text, class_text, is_wide, IsPoolFrom}
 use Rattle.jm_classout.specs.Fits.{FitsSlot}
 
--- parts put behind a text, one after another
+-- parts put after a text, one after another
 abbrev pub put_all : List ℕ → List (List ℕ) → List ℕ
 put_all text [] = text
 put_all text (part ∷ parts) = put_all (text ++ part) parts

@@ -50,7 +50,7 @@ module _ {T A : Type 0} (data_of : T → A) (text : A → List ℕ) (xs : List T
       ≡ start ++ texts data_of text xs
   text_all done start e = sym (append-nil done) ∙ ap (λ t. done ++ t) (sym texts-none) ∙ e
 
-  -- a count, and so many items
+  -- a count, and that many items
   pub counted_all : (old done start : List ℕ) → done ++ texts data_of text (drop i xs) ≡ start ++ texts data_of text xs → start
       ≡ old ++ u2 (length xs) → done ≡ old ++ counted_text text (map data_of xs)
   counted_all old done start e begun =

@@ -17,7 +17,7 @@ pub fn put32(text: &mut Vec<u8>, n: u32) -> Result<(), NoMemory>
     extend(text, &n.to_be_bytes())
 }
 
-/// Puts a length of four bytes and so many bytes at the end.
+/// Puts a length of four bytes and that many bytes at the end.
 pub fn put_sized(text: &mut Vec<u8>, bytes: &[u8]) -> Result<(), NoMemory>
     requires { FitsSized bytes.now }
     ensures { OnOk result (text.new.items ≡ text.old.items ++ sized_text bytes.now) }

@@ -33,7 +33,7 @@ module _ {K : Type 0} (key : K → List ℕ) where
       rw (is_eq-slice_cmp text (key e.0))
       (ap (λ o. cond (bytes_eq text (key e.0)) (Some e.1) o) (lookup-shown text es))
 
-  -- two texts in front of a list, of which only one is looked for, in either order
+  -- two texts before a list, of which only one is looked for, in either order
   swapped : (a b other : List ℕ) (v w : ℕ) (rest : Option ℕ) → bytes_eq a b ≡ false
       → cond (bytes_eq other b) (Some w) (cond (bytes_eq other a) (Some v) rest)
       ≡ cond (bytes_eq other a) (Some v) (cond (bytes_eq other b) (Some w) rest)

@@ -72,7 +72,7 @@ less_at_most a b less = go (slice_cmp nat_cmp a b) less
     go Equal e = refl
     go Greater e = absurd (false≢true e)
 
--- the elements behind one are behind it in the relation
+-- the elements after one are after it in the relation
 behind : (R : ℕ → ℕ → Type 0) (front rest : List ℕ) (i : ℕ) → AllPairs R (front ++ i ∷ rest) → All (R i) rest
 behind R [] rest i pairs = pairs_head R i rest pairs
 behind R (x ∷ front) rest i pairs = behind R front rest i (pairs_tail R x (front ++ i ∷ rest) pairs)

@@ -91,7 +91,7 @@ Reaches rounds work rounds' work' round next =
     InRound graph before starts round rounds' work' []
 
 -- what a round that began with some nodes comes to: it reaches what they lead to, and was not
--- reached before, except behind nodes that were
+-- reached before, except after nodes that were
 pub record IsRound (graph : List (List ℕ)) (before starts : List ℕ) (round : ℕ)
     (rounds : List ℕ) : Type 0 where
   pub size : length rounds ≡ length graph

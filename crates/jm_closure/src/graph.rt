@@ -22,7 +22,7 @@ impl Model for Graph {
 }
 
 impl Graph {
-    /// So many nodes without an edge.
+    /// That many nodes without an edge.
     pub fn new(alloc: Global, nodes: usize) -> Result<Graph, NoMemory>
         ensures { IfOk result (λ graph. graph ≡ replicate nodes []) }
     {

@@ -36,7 +36,7 @@ impl Walk {
     }
 }
 
-/// The nodes that a walk leaves, the last one first, so each in front of those to which it leads,
+/// The nodes that a walk leaves, the last one first, so each before those to which it leads,
 /// cycles apart. No clause speaks of this order: with any other one a cycle is found as well, but
 /// not in linear time.
 pub fn last_left_first(alloc: Global, graph: &Graph) -> Result<Vec<usize>, NoMemory> {

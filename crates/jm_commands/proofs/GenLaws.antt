@@ -30,7 +30,7 @@ answers_behind made due (Err (stop.Complaint given)) is = is
 answers_behind made due (Err stop.Outside) is = tt
 answers_behind made due (Err stop.Memory) is = tt
 
--- files that were made behind others
+-- files that were made after others
 all_behind : (made writes : Writes) (shelf now new : ShelfSeen) → MadeAll made shelf.told now.told → IsTrue new.whole
     → StandAll writes now new → StandAll (made ++ writes) shelf new
 all_behind made writes shelf now new first whole more = record {
@@ -55,7 +55,7 @@ files_behind made writes (Err stop.Outside) shelf now new first ends more = part
 files_behind made writes (Err stop.Memory) shelf now new first ends more = part_append made writes shelf.told now.shelf.told
     new.shelf.told first more
 
--- the output is put behind all of them
+-- the output is put after all of them
 first_behind_made : (made writes : Writes) (answer : Result (Unit {0}) Stop) (shelf : ShelfSeen) (now new : World)
     → MadeAll made shelf.told now.shelf.told → EndsFiles answer now new → FilesFirst writes now new
     → StandAll (made ++ writes) shelf new.shelf ⊎ (new.out.told ≡ now.out.told)
@@ -69,7 +69,7 @@ module _ (made : Writes) (shelf : ShelfSeen) (now new : World) (first : MadeAll 
   abbrev old : World
   old = record { shelf = shelf; input = now.input; out = now.out }
 
-  -- a step behind the making of files
+  -- a step after the making of files
   pub step_after : (Due : Outcome → Type 0) (answer : Result (Unit {0}) Stop) → EndsFiles answer now new
       → StepComesTo Due reading answer now new → StepComesTo (λ due. (last : Outcome) × Due last × (due ≡ behind made last))
       (making made) answer old new
@@ -95,7 +95,7 @@ module _ (made : Writes) (shelf : ShelfSeen) (now new : World) (first : MadeAll 
     },
   )
 
--- behind a link that stopped
+-- after a link that stopped
 stopped_files : (given : LinkStop) (now new : World) → AfterStep {A = Summary} (IsTrue new.shelf.whole) (Err given) → new.out.told
     ≡ now.out.told → EndsFiles (Err (stop_of_link given)) now new
 stopped_files (link_stop.Refused refusal) now new whole unput = inl whole

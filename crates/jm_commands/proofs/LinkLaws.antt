@@ -178,7 +178,7 @@ module _ (text : Summary → List ℕ) (link : LinkTask) (path : List ℕ) (shel
   Ends answer = StepComesTo (ImageComes shelf.told path (ImageLinkComesTo text link)) reading answer (world shelf source out)
       (world new source new_out)
 
-  -- behind the opening, what is done with the file
+  -- after the opening, what is done with the file
   ends : (b : List ℕ) (answer : Result (Unit {0}) Stop) → IsFiled front mid.told path b
       → StepComesTo (ImageLinkComesTo text link b) reading answer (world mid source out) (world new source new_out) → Ends answer
   ends b answer filed step =

@@ -15,7 +15,7 @@ statuses_text =
     ++ codes "  7 no memory was found\n"
     ++ codes "  8 a session broke its limits\n"
 
--- the text of `--help`: the commands, the options and the plug-ins, and behind them the statuses
+-- the text of `--help`: the commands, the options and the plug-ins, and after them the statuses
 abbrev pub help_text : List ℕ
 help_text = words.help_text ++ statuses_text
 

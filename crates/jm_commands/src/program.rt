@@ -72,7 +72,7 @@ fn do_command<T: Threads + Sync, S: Shelf, I: Source, O: Sink, G: Gate + Sync>(
     }
 }
 
-/// Does all that the program does: reads the words behind the program's name, does the command,
+/// Does all that the program does: reads the words after the program's name, does the command,
 /// puts its output to `out` and a line on what is wrong to `err`, and gives the status.
 ///
 /// Only `serve` reads from `input`.

@@ -36,7 +36,7 @@ front_first (a ∷ front) (b ∷ name) is =
     go Equal is same rest = rest
     go Greater more same rest = refl
 
--- what doesn't stand before it, nor behind a name that begins so, begins so
+-- what doesn't stand before it, nor after a name that begins so, begins so
 begins_between : (front name other : List ℕ) → is_before name front ≡ false → is_before other name ≡ false
     → starts_with nat_eq other front ≡ true → starts_with nat_eq name front ≡ true
 begins_between [] name other above below is = refl

@@ -53,7 +53,7 @@ refused_alone b ts =
 
 -- The first refusal
 
--- a bad name comes first, behind names that may stand
+-- a bad name comes first, after names that may stand
 pub bad_name : (ts : List TakenEntry) (i : ℕ) (t : TakenEntry) (name : List ℕ) (fault : NameFault) → i < length ts
     → get_or ts i t ≡ t → name ≡ t.name → Some fault ≡ name_fault name
     → first_bad_name (map name_alone (drop i ts)) ≡ first_bad_name (map name_alone ts)

@@ -21,7 +21,7 @@ use Rattle.jm_filed.specs.Taken.{taken}
 abbrev pub begins : List Named → List ℕ → Bool
 begins entries front = list_any (λ e. starts_with nat_eq e.0 front) entries
 
--- the refusal of a name that is another one's folder: with a slash behind it, another name begins
+-- the refusal of a name that is another one's folder: with a slash after it, another name begins
 -- so
 abbrev pub clash_refusal : List Named → Named → Option Refusal
 clash_refusal entries e = fault_if (begins entries (e.0 ++ 47 ∷ [])) (refusal.Clash e.0)
@@ -62,7 +62,7 @@ abbrev pub BreaksOff : Result (List Named) Refusal → List ℕ → Option Files
 BreaksOff (Ok entries) dir old new = MadePart (writes_of dir entries) old new
 BreaksOff (Err refusal) dir old new = new ≡ old
 
--- what an extraction did, by its answer: so many files, all of them; a refusal, and no file was
+-- what an extraction did, by its answer: that many files, all of them; a refusal, and no file was
 -- changed; a failure of the outside; no memory
 abbrev pub Extracts : Result (List Named) Refusal → List ℕ → Result ℕ ExtractStop
     → (old new : Option Files) → Type 0

@@ -14,7 +14,7 @@ drawn-drawn seed a (suc b) =
 pub drawn_next : (seed n : ℕ) → draw (drawn seed n) ≡ drawn seed (n + 1)
 drawn_next seed n = let more : suc n ≡ n + 1 = omega arith in ap (drawn seed) more
 
--- the draw of a class, behind those of the descriptor and of the classes before it
+-- the draw of a class, after those of the descriptor and of the classes before it
 pub class_draw : (seed class draws value : ℕ) → draws ≡ drawn seed (class + 1) → value ≡ draw draws
     → value ≡ drawn seed (0 + 2 + class)
 class_draw seed class draws value before is =

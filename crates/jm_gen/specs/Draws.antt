@@ -2,11 +2,11 @@
 -- the factor and the summand are those of D. Knuth's MMIX).
 use Rattle.std.specs.Prelude.{ℕ, zero, suc, ◌+◌, ◌*◌, ◌%◌, ◌^◌}
 
--- the number that is drawn behind another
+-- the number that is drawn after another
 abbrev pub draw : ℕ → ℕ
 draw x = (x * 6364136223846793005 + 1442695040888963407) % 2 ^ 64
 
--- what so many draws make of a seed
+-- what that many draws make of a seed
 abbrev pub drawn : ℕ → ℕ → ℕ
 drawn seed zero = seed
 drawn seed (suc n) = draw (drawn seed n)

@@ -21,7 +21,7 @@ digit n = 48 + n % 10
 abbrev pub module_name : ℕ → List ℕ
 module_name k = 109 ∷ digit (k / 100) ∷ digit (k / 10) ∷ digit k ∷ []
 
--- the names of so many modules, from the first on
+-- the names of that many modules, from the first on
 abbrev pub module_names : ℕ → List (List ℕ)
 module_names modules = map module_name (range_with_len 0 modules)
 
@@ -29,7 +29,7 @@ module_names modules = map module_name (range_with_len 0 modules)
 abbrev pub class_name : ℕ → List ℕ
 class_name c = 67 ∷ digit (c / 1000) ∷ digit (c / 100) ∷ digit (c / 10) ∷ digit c ∷ []
 
--- the name of a class behind its package: its module's name, one of eight, and its own
+-- the name of a class after its package: its module's name, one of eight, and its own
 abbrev pub class_path : ℕ → ℕ → List ℕ
 class_path k c =
     joined (module_name k ∷ codes "/p" ∷ ((48 + c % 8) ∷ []) ∷ codes "/" ∷ class_name c ∷ [])
@@ -114,7 +114,7 @@ class_data k c v = class_with (class_path k c) (source_name c) (to_be_bytes w64 
 
 -- The files, each a path and its bytes
 
--- the path of a file of a module, by what stands behind the module's folder
+-- the path of a file of a module, by what stands after the module's folder
 abbrev pub path_in : List ℕ → ℕ → List ℕ → List ℕ
 path_in dir k rest = joined (dir ∷ codes "/" ∷ module_name k ∷ codes "/" ∷ rest ∷ [])
 

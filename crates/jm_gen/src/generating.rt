@@ -95,7 +95,7 @@ fn make_module<S: Shelf>(
     Ok(())
 }
 
-/// Makes the files of so many modules of so many classes below a folder, from a seed: for each
+/// Makes the files of that many modules of that many classes below a folder, from a seed: for each
 /// module its descriptor, which needs earlier modules, and then its classes, each with a number of
 /// its own. They are the same at each run.
 ///

@@ -19,7 +19,7 @@ pub fn module_name(number: u32) -> [u8; 4]
     [b'm', digit(number / 100), digit(number / 10), digit(number)]
 }
 
-/// The names of so many modules, from the first on.
+/// The names of that many modules, from the first on.
 pub fn module_names(alloc: Global, modules: u32) -> Result<List<Text>, NoMemory>
     ensures { IfOk result (λ names. names ≡ module_names modules) }
 {

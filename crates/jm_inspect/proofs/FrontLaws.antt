@@ -67,7 +67,7 @@ never_lacks (Some files) path size at count long within lacks = go (file files p
 
 -- Fronts
 
--- a file begins so and has so many bytes
+-- a file begins so and has that many bytes
 pub has_front : (told : Option Files) (path front : List ℕ) (size : ℕ) → HasLength told path (Some size)
     → HasPart told path 0 (length front) front → length front ≤ size → HasFront told path front size
 has_front None path front size long begins within =
@@ -133,7 +133,7 @@ head_is told path head size long (more, is, count, has) = record {
 pub holds_head : (told : Option Files) (path head : List ℕ) (size : ℕ) → IsHeadOf told path head size → HoldsHead head size
 holds_head told path head size is = omega (arith, is.length_is)
 
--- more bytes behind them leave the header
+-- more bytes after them leave the header
 header_longer : (head more : List ℕ) (size : ℕ) → HoldsHead head size → length (head ++ more) ≤ size
     → header_with (head ++ more) size ≡ header_with head size
 header_longer head more size holds within =
@@ -262,7 +262,7 @@ begins_too head more size b whole = record {
   length_is = whole.length_is;
 }
 
--- behind the head the rest of the index
+-- after the head the rest of the index
 pub index_taken : (told : Option Files) (path head front : List ℕ) (size count : ℕ) (h : Header) (old mid new : ℕ) (b : List ℕ)
     → IsHeadOf told path head size → header_with head size ≡ Ok h → Adds told path head count front
     → TakesFrom told path (λ b. 28) old mid → new ≤ mid + (index_length h - 28) → IsFileOf front size b → new ≤ old + front_size b
@@ -286,7 +286,7 @@ pub takes_front : (told : Option Files) (path : List ℕ) (more : List ℕ → �
     → TakesFrom told path (opened_size more) old new
 takes_front told path more old new takes = takes_more told path front_size (opened_size more) old new (λ b. omega arith) takes
 
--- behind the front of an image without a damage contents of it
+-- after the front of an image without a damage contents of it
 pub takes_opened : (told : Option Files) (path : List ℕ) (front : Front) (more : List ℕ → ℕ) (old now new : ℕ)
     → IsOpenFront told path front → TakesOfFront front front_size old now → TakesOfFront front more now new
     → TakesFrom told path (opened_size more) old new
@@ -342,7 +342,7 @@ refused path Is Also Lacks NotThere (stop.Complaint given) follows (lacks, is) =
 refused path Is Also Lacks NotThere stop.Outside follows read = tt
 refused path Is Also Lacks NotThere stop.Memory follows read = tt
 
--- no more was read of a file that has so many bytes, where they would be within them
+-- no more was read of a file that has that many bytes, where they would be within them
 pub unextended : {B : Type 0} (told mid : Option Files) (path old new : List ℕ) (Also : B → Type 0) (size count more : ℕ) (given : Stop)
     → mid ≡ told → HasLength told path (Some size) → more ≡ count → length old + count ≤ size
     → ReadsMore mid path old more new (Err given) → Comes path Also (HasFile told path None) (Err given)
@@ -412,7 +412,7 @@ module _ (Sound : List ℕ → Outcome → Type 0) (path : List ℕ) (shelf mid 
       comes_behind (ImageComes shelf.told path Sound) shelf (world mid source out) new answer same kept
       (step_as (sound_due Sound shelf.told path b is) step)
 
--- what a work does behind the opening
+-- what a work does after the opening
 pub work_behind : (work : ImageWork) (path : List ℕ) (answer : Result (Unit {0}) Stop) (shelf mid new : ShelfSeen)
     (out new_out : Seen (List ℕ)) → mid.told ≡ shelf.told → mid.faults ≡ shelf.faults → WorkDoes work path answer mid new out new_out
     → WorkDoes work path answer shelf new out new_out

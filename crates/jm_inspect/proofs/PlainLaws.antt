@@ -38,7 +38,7 @@ use Rattle.jm_inspect.specs.declared.complaint.Complaint.TheVariants as complain
 use Rattle.jm_inspect.specs.ListText.{list_text, sized, sized_line}
 use Rattle.jm_inspect.specs.Texts.{complaint_text, line_of}
 
--- a word without a control character, and what stands behind it
+-- a word without a control character, and what stands after it
 behind : (word rest : List ℕ) → list_any is_control word ≡ false → StaysInLine rest → StaysInLine (word ++ rest)
 behind word rest plain stays = both_stay word rest (plain_stays word plain) stays
 
@@ -126,7 +126,7 @@ one_name word name plain = behind word (spaced name) plain (spaced_stays name)
 two_names : (word name other : List ℕ) → list_any is_control word ≡ false → StaysInLine (word ++ spaced name ++ spaced other)
 two_names word name other plain = both_stay (word ++ spaced name) (spaced other) (one_name word name plain) (spaced_stays other)
 
--- a word, what is shown behind it, and a fault behind a space
+-- a word, what is shown after it, and a fault after a space
 with_fault : (word text fault : List ℕ) → list_any is_control word ≡ false → StaysInLine text → StaysInLine fault
     → StaysInLine (word ++ text ++ 32 ∷ fault)
 with_fault word text fault plain stays fault_stays =

@@ -126,7 +126,7 @@ output_failed early due old new is failed = subst (λ (o : Outcome). WorkFailed 
 abbrev pub Quiet : Result (Unit {0}) Stop → World → World → Type 0
 Quiet answer old new = IsOk answer → (new.shelf.faults ≡ old.shelf.faults) × (new.input.faults ≡ old.input.faults)
 
--- a put, behind calls that changed no file and read nothing from the source
+-- a put, after calls that changed no file and read nothing from the source
 module _ (due : Outcome) (old new : World) (files : new.shelf.told ≡ old.shelf.told) (source : new.input.told ≡ old.input.told)
     (alone : due.session ≡ None) where
   unmade : due.writes ≡ [] → MadeAll due.writes old.shelf.told new.shelf.told
@@ -282,7 +282,7 @@ pub put_on_text : (of_text : List ℕ → Outcome) (same : Outcome) (answer : Re
 put_on_text of_text same answer old new put files source alone quiet is = on_any_text of_text same answer old new is
     (put_step same old new files source alone answer put quiet)
 
--- A step behind a call of the shelf that changed no file
+-- A step after a call of the shelf that changed no file
 
 module _ (shelf : ShelfSeen) (now new : World) where
   abbrev old : World
@@ -369,7 +369,7 @@ pub step_as : {Due Also : Outcome → Type 0} {early : Early} {answer : Result (
 step_as leads (inl fails) = inl fails
 step_as leads (inr (due, is, step)) = inr (due, leads due is, step)
 
--- behind a call of the shelf that changed no file
+-- after a call of the shelf that changed no file
 pub comes_behind : (Due : Outcome → Type 0) (shelf : ShelfSeen) (now new : World) (answer : Result (Unit {0}) Stop)
     → now.shelf.told ≡ shelf.told → now.shelf.faults ≡ shelf.faults → StepComesTo Due reading answer now new
     → StepComesTo Due reading answer (record { shelf = shelf; input = now.input; out = now.out }) new

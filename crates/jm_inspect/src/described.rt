@@ -65,7 +65,7 @@ fn put_line<O: Sink>(pieces: &mut Pieces<O>, word: &[u8], name: &[u8]) -> Result
     pieces.hold(b"\n")
 }
 
-/// Passes on names, each behind a comma.
+/// Passes on names, each after a comma.
 fn put_behind_commas<O: Sink>(pieces: &mut Pieces<O>, names: &[SharedText]) -> Result<(), SinkError>
     ensures { PassesOn O.Sink (flat_map behind_comma names.now) result pieces.old pieces.new }
 {
@@ -101,7 +101,7 @@ fn module_word(flags: u16) -> &'static [u8]
     }
 }
 
-/// Passes on the version of a module behind its sign, if it has one.
+/// Passes on the version of a module after its sign, if it has one.
 fn put_version<O: Sink>(
     pieces: &mut Pieces<O>,
     version: &Option<SharedText>,

@@ -65,7 +65,7 @@ pub fn file_length<S: Shelf>(alloc: Global, path: &Text, shelf: &mut S) -> Resul
     }
 }
 
-/// So many bytes of the file at a path, from a place on. Where the file has fewer there, it isn't
+/// That many bytes of the file at a path, from a place on. Where the file has fewer there, it isn't
 /// the one whose length was asked for, and counts as one that isn't there.
 pub fn file_part<S: Shelf>(
     alloc: Global,
@@ -91,7 +91,7 @@ pub fn file_part<S: Shelf>(
     }
 }
 
-/// Adds to the first bytes of a file those that follow, so many.
+/// Adds to the first bytes of a file those that follow, that many.
 fn extend_front<S: Shelf>(
     alloc: Global,
     path: &Text,

@@ -27,7 +27,7 @@ use std::marker::{Brand, Model};
 use std::sync::ledger::Ledger;
 use std::thread::Threads;
 
-/// All bytes of the file at a path, as one part behind its length: a shelf of the system refuses so
+/// All bytes of the file at a path, as one part after its length: a shelf of the system refuses so
 /// what is no file, as a pipe, before it waits for it.
 fn whole_file<S: Shelf>(alloc: Global, path: &Text, shelf: &mut S) -> Result<Text, Stop>
     requires { IsUtf8 path.now }

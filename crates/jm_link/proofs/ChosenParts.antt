@@ -69,7 +69,7 @@ module _ (told : Option Files) (path b : List ℕ) (rs : List Written) (files : 
   pub files_apart : AllPairs (λ m n. m ≢ n) (map (λ (f : ChosenFile). f.name) files)
   files_apart = subst (AllPairs (λ (m n : List ℕ). m ≢ n)) (sym names) apart
 
-  -- so many bytes are read of the files that aren't known
+  -- that many bytes are read of the files that aren't known
   pub read_sizes_are : read_sizes files ≡ sizes (undescribed rs)
   read_sizes_are = go files within (all_from_contains IsMarked files marked) ∙ ap (λ es. sizes (undescribed es)) chosen.1
     where

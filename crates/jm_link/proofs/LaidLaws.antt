@@ -35,7 +35,7 @@ pairs_front R xs ys all i j d before inside = search (rules, length-append, get_
 
 -- What nothing refuses
 
--- the checks behind the third, the second and the first
+-- the checks after the third, the second and the first
 abbrev behind_table : Order → List Written → List (Option Refusal)
 behind_table order resources = option_and_then (size_refusal order resources) (layout_table resources) ∷ []
 

@@ -21,7 +21,7 @@ use Rattle.jm_texts.specs.NameRefusals.{first_bad_name}
 abbrev plain_module : List ℕ → List ℕ → List (List ℕ) → VisibleModule
 plain_module folder name files = module_with folder (plain_descriptor name []) [] files
 
--- U+FFFD, and U+1F600, which stands behind it in UTF-8 and before it in an image
+-- U+FFFD, and U+1F600, which stands after it in UTF-8 and before it in an image
 abbrev replaced : List ℕ
 replaced = 239 ∷ 191 ∷ 189 ∷ []
 

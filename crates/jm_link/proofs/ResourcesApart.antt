@@ -39,7 +39,7 @@ legal_bytes name legal = both_last _ (list_all is_legal_byte name) legal
 no_slash : (b : ℕ) (name : List ℕ) → 47 ≡ b → list_all is_legal_byte (b ∷ name) ≡ true → ⊥
 no_slash b name is legal = cc
 
--- what stands before the slash behind a legal name is the name
+-- what stands before the slash after a legal name is the name
 cut_same : (n m x y : List ℕ) → list_all is_legal_byte n ≡ true → list_all is_legal_byte m ≡ true → n ++ 47 ∷ x ≡ m ++ 47 ∷ y → n ≡ m
 cut_same [] [] x y one other same = refl
 cut_same [] (c ∷ m) x y one other same = let is : 47 ≡ c = cc in absurd (no_slash c m is other)

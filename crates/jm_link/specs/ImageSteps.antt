@@ -61,7 +61,7 @@ abbrev pub read_for : Result (List Written) LinkStop → List Written
 read_for (Ok pool) = undescribed pool
 read_for (Err stop) = []
 
--- one of some resources has this name, and a content of so many bytes
+-- one of some resources has this name, and a content of that many bytes
 abbrev pub HasSize : List Written → Written → Type 0
 HasSize rs r = (content : List ℕ) × Contains rs (r.0, content) × (length content ≡ length r.1)
 

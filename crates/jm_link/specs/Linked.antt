@@ -66,7 +66,7 @@ layout_checks order resources =
 abbrev pub layout_refusal : Order → List Written → Option Refusal
 layout_refusal order resources = first_fault (layout_checks order resources)
 
--- the image of resources of so many modules
+-- the image of resources of that many modules
 abbrev pub image_with : Order → ℕ → List Written → LinkedImage
 image_with order modules resources = record {
   bytes = unwrap_or (layout order resources) [];
@@ -75,7 +75,7 @@ image_with order modules resources = record {
   slots = unwrap_or (option_map (λ table. table.length) (layout_table resources)) 0;
 }
 
--- the image of the resources of so many modules, or the refusal if there is one
+-- the image of the resources of that many modules, or the refusal if there is one
 abbrev pub laid_out : Order → ℕ → List Written → Option Refusal → Result LinkedImage Refusal
 laid_out order modules resources None = Ok (image_with order modules resources)
 laid_out order modules resources (Some refusal) = Err refusal
@@ -84,22 +84,22 @@ laid_out order modules resources (Some refusal) = Err refusal
 abbrev pub plugging_refusal : BadClass → Refusal
 plugging_refusal bad = refusal.BadClass bad.name bad.fault
 
--- what plug-ins left of the resources of so many modules is laid out, or their fault is refused
+-- what plug-ins left of the resources of that many modules is laid out, or their fault is refused
 abbrev pub IsPluggedTo : Order → ℕ → Result (List Written) BadClass
     → Result LinkedImage Refusal → Type 0
 IsPluggedTo order modules (Ok resources) result =
     result ≡ laid_out order modules resources (layout_refusal order resources)
 IsPluggedTo order modules (Err fault) result = result ≡ Err (plugging_refusal fault)
 
--- what the resources of so many modules come to: the plug-ins act on them, and what these leave is
--- laid out
+-- what the resources of that many modules come to: the plug-ins act on them, and what these leave
+-- is laid out
 abbrev pub PlugsTo : Request → ℕ → List Written → Result LinkedImage Refusal → Type 0
 PlugsTo asked modules resources result =
     (left : Result (List Written) BadClass)
     × Applies asked.release asked.plugins resources left
     × IsPluggedTo asked.order modules left result
 
--- the first unfit name of the resources of so many modules is refused, else the plug-ins act on
+-- the first unfit name of the resources of that many modules is refused, else the plug-ins act on
 -- them
 abbrev pub IsGatheredTo : Request → ℕ → List Written → Option Refusal
     → Result LinkedImage Refusal → Type 0

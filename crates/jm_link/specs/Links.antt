@@ -85,7 +85,7 @@ abbrev pub Links : List (List ℕ) → Request → List ℕ → Result Summary L
 Links directories asked path answer old new =
     LinksBy (ComesTo old.told directories asked) (TellsNothing old.told) path answer old new
 
--- what the resources of so many modules come to, and an image is laid out
+-- what the resources of that many modules come to, and an image is laid out
 abbrev pub PoolComesTo : Request → ℕ → List Written → Result LinkedImage Refusal → Type 0
 PoolComesTo asked modules resources result =
     PlugsTo asked modules resources result × IsLaid asked.order result

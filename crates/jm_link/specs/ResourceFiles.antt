@@ -56,7 +56,7 @@ pub record IsToldIn (files : Files) (f : ResourceFile) : Type 0 where
 abbrev pub HoldsDescribed : List Written → ResourceFile → Type 0
 HoldsDescribed resources f = IfSome f.described (λ bytes. Contains resources (f.name, bytes))
 
--- one resource is put behind others: a file with the bytes that were described, if some were, and
+-- one resource is put after others: a file with the bytes that were described, if some were, and
 -- with those that a shelf tells
 pub record PutsRead (told : Option Files) (f : ResourceFile) (old new : List Written)
     : Type 0 where

@@ -29,7 +29,7 @@ abbrev pub StepGives : {A : Type 0} → (A → Type 0) → (Refusal → Type 0) 
 StepGives Gives Refuses Absent Fails (Ok given) = Gives given
 StepGives Gives Refuses Absent Fails (Err stop) = StepStops Refuses Absent Fails stop
 
--- a fact behind a step, unless the outside failed or no memory was found
+-- a fact after a step, unless the outside failed or no memory was found
 abbrev pub AfterStep : {A : Type 0} → Type 0 → Result A LinkStop → Type 0
 AfterStep Fact answer = StepGives (λ given. Fact) (λ refusal. Fact) Fact (Unit {0}) answer
 

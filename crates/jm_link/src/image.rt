@@ -17,7 +17,7 @@ use jm_words::LinkTask;
 use jm_writer::{Draft, plan, write};
 use std::alloc::Global;
 
-/// Writes a planned image, and ends the making of files behind it. After a refusal the file may
+/// Writes a planned image, and ends the making of files after it. After a refusal the file may
 /// hold all of the image.
 fn write_whole<S: Shelf>(
     alloc: Global,
@@ -72,7 +72,7 @@ fn write_planned<S: Shelf>(
     })
 }
 
-/// Writes the image of the resources of so many modules. All of it but the bytes of the resources
+/// Writes the image of the resources of that many modules. All of it but the bytes of the resources
 /// is made before the file is touched.
 pub fn write_image<S: Shelf>(
     alloc: Global,

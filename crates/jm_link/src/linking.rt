@@ -63,7 +63,7 @@ pub fn link<R: Threads + Sync, S: Shelf, G: Gate + Sync>(
     ensures links { Links (directories_of task.now.source) (request_of task.now) task.now.output
         result (shelf_at S.Shelf shelf.old) (shelf_at S.Shelf shelf.new) }
 
-    // Files that were made before stand whole then, also behind a refusal.
+    // Files that were made before stand whole then, also after a refusal.
     ensures whole { directories_of task.now.source ≢ []
         → AfterStep (IsTrue (S.whole shelf.new)) result }
 {

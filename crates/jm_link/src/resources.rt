@@ -101,7 +101,7 @@ fn module_files(
     Ok(sorted_by_name(files))
 }
 
-/// Puts some files behind others.
+/// Puts some files after others.
 fn append(files: &mut List<ResourceFile>, more: List<ResourceFile>) -> Result<(), NoMemory>
     ensures { OnOk result (files.new ≡ files.old ++ more) }
 {

@@ -117,7 +117,7 @@ all_pool =
     ∷ utf8 (codes "b") ∷ Constant 19 (u2 10) ∷ utf8 (codes "1") ∷ utf8 (codes "ModuleMainClass")
     ∷ utf8 (codes "x,y") ∷ Constant 19 (u2 14) ∷ []
 
--- a body whose export has this target, and some bytes behind it; a main class of this number
+-- a body whose export has this target, and some bytes after it; a main class of this number
 abbrev all_class : ℕ → List ℕ → ℕ → ClassData
 all_class target rest main =
     record (info_class (codes "a") []) {

@@ -1,5 +1,5 @@
--- The faults of a descriptor in print: the fault's name, and its number behind a space; that of a
--- class or a descriptor behind a word for it (this project's rule).
+-- The faults of a descriptor in print: the fault's name, and its number after a space; that of a
+-- class or a descriptor after a word for it (this project's rule).
 use Rattle.std.specs.Prelude.{ℕ, ◌++◌, List, codes}
 use Rattle.std.specs.Fmt.{decimal}
 use Rattle.jm_class.specs.FaultText.{class_fault_text}
@@ -8,7 +8,7 @@ use Rattle.jm_modinfo.specs.declared.faults.InfoFault.TheVariants as fault
 use Rattle.jm_modinfo.specs.declared.faults.DescriptorFault.{DescriptorFault}
 use Rattle.jm_modinfo.specs.declared.faults.DescriptorFault.TheVariants as kind
 
--- a fault of a descriptor in print: its name, and its number behind a space
+-- a fault of a descriptor in print: its name, and its number after a space
 abbrev pub info_fault_text : InfoFault → List ℕ
 info_fault_text fault.NotModule = codes "NotModule"
 info_fault_text (fault.OldVersion major) = codes "OldVersion " ++ decimal major
@@ -20,7 +20,7 @@ info_fault_text (fault.Rest at) = codes "Rest " ++ decimal at
 info_fault_text (fault.Name at) = codes "Name " ++ decimal at
 info_fault_text fault.Main = codes "Main"
 
--- a fault in print, behind `Class` or `Info`
+-- a fault in print, after `Class` or `Info`
 abbrev pub descriptor_fault_text : DescriptorFault → List ℕ
 descriptor_fault_text (kind.Class fault) = codes "Class " ++ class_fault_text fault
 descriptor_fault_text (kind.Info fault) = codes "Info " ++ info_fault_text fault

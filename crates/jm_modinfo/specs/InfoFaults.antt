@@ -1,5 +1,5 @@
 -- The first fault of the class of a module (this project's rule): that of the body of the Module
--- attribute, and what comes in front of it and behind it.
+-- attribute, and what comes before it and after it.
 use Rattle.std.specs.Prelude.{◌≡◌, ℕ, ◌<◌, ◌≤◌, true, false, List, [], ◌∷◌, length, None}
 use Rattle.std.specs.Prelude.{option_and_then, All}
 use Rattle.jm_class.specs.Classes.{SlotData, ClassData}
@@ -35,7 +35,7 @@ IsNoMain pool [] = ⊥
 IsNoMain pool (body ∷ []) = option_and_then (named_at pool Class) (number_in body) ≡ None
 IsNoMain pool (body ∷ other ∷ more) = Unit {0}
 
--- the rule: what is wrong with the class of a module, where nothing in front of it is wrong: it
+-- the rule: what is wrong with the class of a module, where nothing before it is wrong: it
 -- isn't flagged as one; its version is too old; it has no attribute `Module`, or more than one; its
 -- body has a fault; its main class is none
 pub data HasInfoFault (c : ClassData) (fault : InfoFault) : Type 0 where

@@ -29,7 +29,7 @@ fn bytes_named<'a>(class: &Class<'a>, name: &[u8], attribute: &Attribute<'a>) ->
     }
 }
 
-/// The bytes of the first attribute of this name, and the attributes behind it.
+/// The bytes of the first attribute of this name, and the attributes after it.
 fn first_named<'a, 'c>(
     class: &Class<'a>,
     name: &[u8],

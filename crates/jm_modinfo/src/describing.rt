@@ -21,7 +21,7 @@ use jm_bytes::Or;
 use jm_class::{Class, Cursor, read_for};
 use std::alloc::Global;
 
-/// The fields of the Module attribute, and nothing behind them.
+/// The fields of the Module attribute, and nothing after them.
 fn whole_module(texts: &mut ClassTexts, body: &[u8]) -> Result<Descriptor, Or<InfoFault>>
     ensures class { texts.new ≡ texts.old }
     ensures info { Answers (λ d. d) (body_info texts.old.pool body.now) result }

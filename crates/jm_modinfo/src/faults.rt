@@ -28,7 +28,7 @@ pub enum InfoFault {
     Main,
 }
 
-/// The fault's name, and its number behind a space, as `Short 14`.
+/// The fault's name, and its number after a space, as `Short 14`.
 impl fmt::Display for InfoFault {
     ghost output = { λ f. Some (info_fault_text f) };
 
@@ -56,7 +56,7 @@ pub enum DescriptorFault {
     Info(InfoFault),
 }
 
-/// The fault behind a word for its kind, as `Class Short 22`.
+/// The fault after a word for its kind, as `Class Short 22`.
 impl fmt::Display for DescriptorFault {
     ghost output = { λ f. Some (descriptor_fault_text f) };
 

@@ -20,7 +20,7 @@ fn put16(text: &mut Vec<u8>, n: u16) -> Result<(), NoMemory>
     extend(text, &n.to_be_bytes())
 }
 
-/// The numbers of the constants that hold the names of so many needs, two bytes each.
+/// The numbers of the constants that hold the names of that many needs, two bytes each.
 fn name_numbers(alloc: Global, count: u16) -> Result<Vec<u8>, NoMemory>
     requires { count ≤ 1000 }
     ensures { IfOk result (λ numbers. numbers.items ≡ numbers_text 6 count) }
@@ -74,7 +74,7 @@ fn utf8<'a>(body: &'a [u8]) -> Slot<'a>
     Slot::Constant { tag: 1, body }
 }
 
-/// Puts a Utf8 at the end, and behind it the constant of a kind that holds its number.
+/// Puts a Utf8 at the end, and after it the constant of a kind that holds its number.
 fn push_named<'a>(
     pool: &mut List<Slot<'a>>,
     name: &'a [u8],
@@ -88,7 +88,7 @@ fn push_named<'a>(
     pool.push(Slot::Constant { tag, body: number })
 }
 
-/// Puts the constants of the needs behind others: each name, and a Module of that name.
+/// Puts the constants of the needs after others: each name, and a Module of that name.
 fn push_needs<'a>(
     pool: &mut List<Slot<'a>>,
     needs: &'a [Need],

@@ -85,7 +85,7 @@ not_before (b ∷ folder) (c ∷ name) before = go (nat_cmp c b) refl before (λ
     go Equal is h rest = either_none (b == c) (after_front (folder ++ 47 ∷ []) name) (rest h)
     go Greater is h rest = absurd (false≢true h)
 
--- nor is one that isn't before the folder and the byte behind a slash
+-- nor is one that isn't before the folder and the byte after a slash
 pub not_behind : (folder name : List ℕ) → IsFalse (is_before name (folder ++ 48 ∷ [])) → after_front (folder ++ 47 ∷ []) name ≡ None
 not_behind [] [] behind = refl
 not_behind [] (c ∷ name) behind = go (nat_cmp c 48) refl behind

@@ -40,14 +40,14 @@ Comes absent due (Err (stop.NotThere path)) = absent
 Comes absent due (Err stop.Outside) = Unit {0}
 Comes absent due (Err stop.Memory) = Unit {0}
 
--- a fact behind the end of a step by a refusal, or by a file that isn't there
+-- a fact after the end of a step by a refusal, or by a file that isn't there
 abbrev pub AfterStop : Type 0 → PathStop → Type 0
 AfterStop Fact (stop.Refused r) = Fact
 AfterStop Fact (stop.NotThere path) = Fact
 AfterStop Fact stop.Outside = Unit {0}
 AfterStop Fact stop.Memory = Unit {0}
 
--- a fact behind a step, unless the outside failed or no memory was found
+-- a fact after a step, unless the outside failed or no memory was found
 abbrev pub AfterStep : {A : Type 0} → Type 0 → Result A PathStop → Type 0
 AfterStep Fact (Ok value) = Fact
 AfterStep Fact (Err stop) = AfterStop Fact stop

@@ -102,7 +102,7 @@ modules_in release files directory =
 abbrev pub is_named : List VisibleModule → List ℕ → Bool
 is_named ms name = list_any (λ m. bytes_eq name (name_of m)) ms
 
--- what can be wrong with a folder of a directory, behind earlier ones with some modules: its file
+-- what can be wrong with a folder of a directory, after earlier ones with some modules: its file
 -- says no module; an earlier one has the name
 abbrev pub folder_checks : List ℕ → List VisibleModule → List ℕ
     → Result Descriptor DescriptorFault → List (Option PathRefusal)

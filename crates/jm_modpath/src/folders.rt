@@ -63,7 +63,7 @@ pub fn names_of_folder<'a>(
     let mut bound = Text::copy_of(alloc, folder)?;
     bound.push(b'/')?;
     let (_, from) = names.split_at(place_of(names, bound.as_slice()));
-    // The byte behind the slash.
+    // The byte after the slash.
     let mut end = Text::copy_of(alloc, folder)?;
     end.push(b'0')?;
     let (part, _) = from.split_at(place_of(from, end.as_slice()));

@@ -1,4 +1,4 @@
--- What a class says as a descriptor, it says with more constants behind its own.
+-- What a class says as a descriptor, it says with more constants after its own.
 use Rattle.std.proofs.Common.{◌≡◌, ℕ, Bool, true, false, not, cond, List, [], ◌∷◌, ◌++◌}
 use Rattle.std.proofs.Common.{Option, Some, None, Result, Ok, Err, refl, ap, ◌∙◌}
 use Rattle.std.specs.Prelude.{nat_eq, nat_lt, option_map, option_and_then, if◌then◌else◌}

@@ -1,4 +1,4 @@
--- What stands in a pool still does with more constants behind it, and so a class of it is well
+-- What stands in a pool still does with more constants after it, and so a class of it is well
 -- formed still.
 use Rattle.std.proofs.Common.{◌≡◌, ℕ, zero, suc, ◌-◌, Bool, true, false, cond, ◌&&◌, List, [], ◌∷◌, ◌++◌}
 use Rattle.std.proofs.Common.{Option, Some, None, refl, sym, ap, ◌∙◌, subst}
@@ -15,7 +15,7 @@ get_stays [] ys i x is = cc
 get_stays (y ∷ xs) ys zero x is = is
 get_stays (y ∷ xs) ys (suc i) x is = get_stays xs ys i x is
 
--- constants behind a pool
+-- constants after a pool
 pub pool_longer : (due : Bool) (pool more : List SlotData) → IsPoolFrom due pool → IsPoolFrom false more → IsPoolFrom due (pool ++ more)
 pool_longer due [] more is later = subst (λ d. IsPoolFrom d more) (sym is) later
 pool_longer true (Hole ∷ pool) more is later = pool_longer false pool more is later

@@ -60,7 +60,7 @@ length-numbers : (number count : ℕ) → length (numbers_text number count) ≡
 length-numbers number zero = refl
 length-numbers number (suc count) = let rest = length-numbers (number + 2) count in omega (arith, rest)
 
--- the name of the attribute stands behind the pool
+-- the name of the attribute stands after the pool
 pub name_there : (pool : List SlotData) (packages : List (List ℕ)) → utf8_at (pool ++ added_slots (length pool + 1) packages)
     (length pool + 1) ≡ Some attribute_name
 name_there pool packages =

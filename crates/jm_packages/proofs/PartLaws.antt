@@ -8,7 +8,7 @@ use Rattle.std.proofs.lemmas.List.Splits.{slice_split_first, slice_split_none}
 use Rattle.jm_bytes.proofs.Firsts.{position_below}
 
 module _ (p : ℕ → Bool) (text : List ℕ) where
-  -- the first part, and the parts of what stands behind it
+  -- the first part, and the parts of what stands after it
   module _ (part behind : List ℕ) (some : list_any p text ≡ true) (before : part ≡ before_first p text)
       (after : behind ≡ after_first p text) where
     parts_first : slice_split p text ≡ part ∷ slice_split p behind

@@ -37,17 +37,17 @@ package_slots number (p ∷ packages) =
 abbrev pub added_slots : ℕ → List (List ℕ) → List SlotData
 added_slots number packages = utf8 attribute_name ∷ package_slots (number + 1) packages
 
--- how many packages there are, and the numbers of their Package constants, which stand behind each
+-- how many packages there are, and the numbers of their Package constants, which stand after each
 -- package's Utf8
 abbrev pub packages_body : ℕ → ℕ → List ℕ
 packages_body number count = u2 count ++ numbers_text (number + 2) count
 
--- the attribute whose name has this number, with the constants of the packages behind it
+-- the attribute whose name has this number, with the constants of the packages after it
 abbrev pub packages_attribute : ℕ → List (List ℕ) → AttributeData
 packages_attribute number packages =
     record { name = number; body = Opaque (packages_body number (length packages)) }
 
--- a class with the constants behind its own, and the attribute behind its own
+-- a class with the constants after its own, and the attribute after its own
 abbrev pub with_packages : List (List ℕ) → ClassData → ClassData
 with_packages packages c = record c {
   pool = c.pool ++ added_slots (length c.pool + 1) packages;

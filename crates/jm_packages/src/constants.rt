@@ -10,7 +10,7 @@ use jm_class::Slot;
 use jm_classout::put16;
 use std::alloc::Global;
 
-/// Puts so many numbers at the end, the first two above one, and each two above the one before.
+/// Puts that many numbers at the end, the first two above one, and each two above the one before.
 pub fn put_numbers(text: &mut Vec<u8>, below: u16, count: u16) -> Result<(), NoMemory>
     requires { below + 2 * count < 2 ^ 16 }
     ensures { OnOk result (text.new.items ≡ text.old.items ++ numbers_text (below + 2) count) }
@@ -32,7 +32,7 @@ pub fn packages_body(alloc: Global, number: u16, count: u16) -> Result<Vec<u8>, 
     Ok(body)
 }
 
-/// Puts the Utf8 of a package at the end, and behind it the constant that holds its number.
+/// Puts the Utf8 of a package at the end, and after it the constant that holds its number.
 fn push_package<'a>(
     pool: &mut List<Slot<'a>>,
     package: &'a [u8],

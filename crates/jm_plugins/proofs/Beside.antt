@@ -12,7 +12,7 @@ use Rattle.jm_halves.proofs.Zipped.{zipped_each}
 use Rattle.jm_pool.specs.Pairs.{flagged_items}
 
 module _ {A : Type 0} where
-  -- an element behind a front stands at the front's length
+  -- an element after a prefix stands at the prefix's length
   pub at_front : (front rest : List A) (x : A) → slice_get (front ++ x ∷ rest) (length front) ≡ Some x
   at_front [] rest x = refl
   at_front (y ∷ front) rest x = at_front front rest x

@@ -62,7 +62,7 @@ pub classes_within : (takes : List ℕ → Bool) (pairs : List (List ℕ × List
     (class_places takes 0 pairs)
 classes_within takes pairs = omega (arith, places_within)
 
--- the classes behind a place, with one place more at the front
+-- the classes after a place, with one place more at the front
 module _ (takes : List ℕ → Bool) (pairs : List (List ℕ × List ℕ)) (place : ℕ) (pair : List ℕ × List ℕ)
     (there : slice_get pairs place ≡ Some pair) (below : place < length pairs) where
   one_more : class_places takes place (drop place pairs) ≡ class_places takes place (pair ∷ drop (place + 1) pairs)
@@ -77,7 +77,7 @@ module _ (takes : List ℕ → Bool) (pairs : List (List ℕ × List ℕ)) (plac
       → found ++ class_places takes (place + 1) (drop (place + 1) pairs) ≡ all
   other_next found all named so_far = search (rules, one_more)
 
--- no place is behind the last
+-- no place is after the last
 pub classes_all : (takes : List ℕ → Bool) (pairs : List (List ℕ × List ℕ)) (place : ℕ) (found all : List ℕ) → length pairs ≤ place
     → found ++ class_places takes place (drop place pairs) ≡ all → found ≡ all
 classes_all takes pairs place found all past so_far = sym (append-nil found) ∙ ap (λ l. found ++ class_places takes place l)

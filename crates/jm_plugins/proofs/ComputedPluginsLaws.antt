@@ -196,7 +196,7 @@ applies_only release (one ∷ later) pairs result (made, makes, on) =
 
 module _ (release : ℕ) (plugins : List Plugin) (first : Pairs) (number : ℕ) (pairs : Pairs) (so_far : (result : Result Pairs BadClass)
     → Applies release (drop number plugins) pairs result → Applies release plugins first result) where
-  -- the next one, and those behind it
+  -- the next one, and those after it
   next_applies : (one : Plugin) (made result : Result Pairs BadClass) → number < length plugins → one ≡ get_or plugins number one
       → Makes release one pairs made → GoesOn (Applies release (drop (number + 1) plugins)) made result
       → Applies release plugins first result

@@ -43,7 +43,7 @@ module _ {X : Type 0} where
       go true is rest = rw (sym (both x), is, rest) refl
       go false is rest = rw (sym (both x), is, rest) refl
 
-  -- where nothing that passes comes behind what doesn't, the list is what passes and then the rest
+  -- where nothing that passes comes after what doesn't, the list is what passes and then the rest
   parted : (p q : X → Bool) → ((x : X) → q x ≡ not (p x)) → (xs : List X) → AllPairs (λ x y. p y ≡ true → p x ≡ true) xs → xs
       ≡ filter p xs ++ filter q xs
   parted p q other [] falls = refl

@@ -56,7 +56,7 @@ within_text (x ∷ xs) = go (is_slash x) refl (within_text xs)
         ap (λ n. list_any is_slash (take n (x ∷ xs))) next
         ∙ ap (λ c. c || list_any is_slash (take (position_or_len is_slash xs) xs)) is ∙ rest
 
--- a text without a slash stands in front of none
+-- a text without a slash stands before none
 pub before_none : (xs : List ℕ) → list_any is_slash xs ≡ false → before_first is_slash xs ≡ xs
 before_none [] none = refl
 before_none (x ∷ xs) none = go (is_slash x) none (before_none xs)
@@ -71,7 +71,7 @@ before_none (x ∷ xs) none = go (is_slash x) none (before_none xs)
 module_whole : (name : List ℕ) → list_any is_slash (module_of name) ≡ false
 module_whole name = within_text (drop 1 name)
 
--- a text in front of the first slash is told by the whole
+-- a text before the first slash is told by the whole
 parts_told : (m k p q : List ℕ) → list_any is_slash m ≡ false → list_any is_slash k ≡ false → m ++ 47 ∷ p ≡ k ++ 47 ∷ q → (m ≡ k) × (p ≡ q)
 parts_told [] [] p q whole other same = (refl, cc)
 parts_told [] (c ∷ k) p q whole other same =

@@ -65,7 +65,7 @@ fn places_of(alloc: Global, turns: &[Turn]) -> Result<List<usize>, NoMemory>
     Ok(places)
 }
 
-/// Puts, pattern by pattern, the pairs that match it and no earlier one in front of those that
+/// Puts, pattern by pattern, the pairs that match it and no earlier one before those that
 /// match none.
 pub fn order<R: Threads + Sync, G: Gate + Sync>(
     workers: &Workers<R, G>,

@@ -74,7 +74,7 @@ bad_append_some : (rs qs : List Named) (e : GatherFault) → first_bad_name rs �
 bad_append_some rs qs e some = ap first_fault (map-append name_refusal rs qs) ∙ first_fault_append_some (map name_refusal rs)
     (map name_refusal qs) e some
 
--- the refusal of a part, where nothing in front of it is refused, is that of the whole
+-- the refusal of a part, where nothing before it is refused, is that of the whole
 pub refused_further : (rs front part back : List Named) (e : GatherFault) → rs ≡ front ++ (part ++ back)
     → first_bad_name front ≡ None → first_bad_name part ≡ Some e → first_bad_name rs ≡ Some e
 refused_further rs front part back e is none given =

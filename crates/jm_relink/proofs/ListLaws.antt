@@ -72,7 +72,7 @@ module _ {X : Type 0} (R : X → X → Type 0) where
   pairs_right [] ys pairs = pairs
   pairs_right (x ∷ xs) ys pairs = pairs_right xs ys (pairs_tail R x (xs ++ ys) pairs)
 
-  -- what stands in front of an element
+  -- what stands before an element
   pub pairs_front : (xs : List X) (x : X) (ys : List X) → AllPairs R (xs ++ x ∷ ys) → All (λ y. R y x) xs
   pairs_front xs x ys pairs = all_from_contains (λ y. R y x) xs (go xs pairs)
     where

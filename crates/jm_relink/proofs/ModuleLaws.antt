@@ -227,7 +227,7 @@ visible_from release rs fs seen are due = subst (IsVisibleIn release rs) (sym ok
           (contains_map name_of (filter_map (seen_of release) (groups fs)) s among);
     }
 
--- what stands before an element of rising groups stands in front of it
+-- what is less than an element of rising groups stands before it
 in_front_of : (front : List Group) (g : Group) (back : List Group) (h : Group) → AllPairs (λ x y. is_before x.0 y.0 ≡ true)
     (front ++ g ∷ back) → Contains (front ++ g ∷ back) h → is_before h.0 g.0 ≡ true → Contains front h
 in_front_of front g back h rising there lesser =

@@ -1,4 +1,4 @@
--- What was read in front of a place is what stands there.
+-- What was read before a place is what stands there.
 use Rattle.std.proofs.Common.{◌≡◌, ℕ, false, ◌-◌, ◌≤◌, List, [], ◌∷◌, ◌++◌, length, take, Ok, refl, sym, ap}
 use Rattle.std.proofs.Common.{◌∙◌, subst, arith, append_assoc, length-append}
 use Rattle.std.proofs.lemmas.Bool.{eqb-true}
@@ -45,7 +45,7 @@ module _ (bytes front : List ℕ) (left : Left) (ahead : Ahead bytes front left)
       let number : length front ≡ length bytes - n = omega (arith, whole, parts, size) in
       ap (take (length bytes - n)) ahead.is ∙ take_at front left.bytes (length bytes - n) number
 
--- two parts more behind those in front
+-- two parts more after the first ones
 pub whole : (parts : List (List ℕ)) (one other text more all : List ℕ) → text ≡ put_all [] parts → text ++ one ≡ more
     → more ++ other ≡ all → joined (parts ++ one ∷ other ∷ []) ≡ all
 whole parts one other text more all front second third =
@@ -56,13 +56,13 @@ whole parts one other text more all front second third =
     behind text [] = refl
     behind text (part ∷ parts) = behind (text ++ part) parts
 
--- a part, and one behind it
+-- a part, and one after it
 pub two_put : (old one other text all : List ℕ) → text ≡ old ++ one → text ++ other ≡ all → old ++ (one ++ (other ++ [])) ≡ all
 two_put old one other text all first second =
     let end = append-nil other in
     rw end (sym (append_assoc old one other) ∙ ap (λ t. t ++ other) (sym first) ∙ second)
 
--- The parts of a class in front of its methods
+-- The parts of a class before its methods
 
 abbrev pub front_parts : ℕ → ℕ → ℕ → List SlotData → ℕ → ℕ → ℕ → List ℕ → List MemberData → List (List ℕ)
 front_parts found minor major pool access this_class super_class interfaces fields =

@@ -71,7 +71,7 @@ module _ {F A : Type 0} (words : A → List ℕ) (test : A → Bool) (reading : 
       let stop = stopped (filtered words test opened) (counted count reading first) fault e in
       rw (read, stop) refl
 
-  -- the number's room stands in front of what was put
+  -- the number's room stands before what was put
   pub kept-room : (first next : Left) (old opened put : List ℕ) (at count n : ℕ) → at ≡ length old → opened ≡ old ++ u2 0
       → shown (filtered words test opened) (counted count reading first) ≡ Ok ((put, n), next) → at + 2 ≤ length put
   kept-room first next old opened put at count n there gap e =
@@ -82,7 +82,7 @@ module _ {F A : Type 0} (words : A → List ℕ) (test : A → Bool) (reading : 
       let front : length opened ≡ length old + 2 = ap length gap ∙ length-append old (u2 0) in
       omega (arith, there, whole, parts, front)
 
--- A number that is put once what stands behind it was put
+-- A number that is put once what stands after it was put
 
 pub patched : (old gap body words : List ℕ) → take (length old) ((old ++ gap) ++ body)
     ++ (words ++ drop (length old + length gap) ((old ++ gap) ++ body)) ≡ old ++ (words ++ body)

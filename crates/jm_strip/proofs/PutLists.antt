@@ -1,4 +1,4 @@
--- Lists whose items are put one after another, behind their number.
+-- Lists whose items are put one after another, after their number.
 use Rattle.std.proofs.Common.{◌≡◌, ℕ, zero, suc, ◌+◌, ◌-◌, ◌<◌, ◌≤◌, List, [], ◌∷◌, ◌++◌, length, map, Ok}
 use Rattle.std.proofs.Common.{Err, refl, sym, ap, ◌∙◌, arith, append_assoc}
 use Rattle.std.proofs.lemmas.List.{append-nil, length-map}
@@ -39,7 +39,7 @@ module _ {F A : Type 0} (reading : Reading F A) (words : A → List ℕ) where
   put-stop count k left old fault more e = shown-stop reading (λ text x. text ++ words x) (with_texts words) text-same count k left
       old fault more e
 
--- so many items were put: those to come make of the text what all make of the one in front of them
+-- that many items were put: those to come make of the text what all make of the one before them
 abbrev pub ArePut : {F A : Type 0} → Reading F A → (A → List ℕ) → ℕ → Left → List ℕ → ℕ → Left → List ℕ → Type 0
 ArePut reading words count first opened k here text = shown (with_texts words opened) (counted count reading first)
     ≡ shown (with_texts words text) (counted (count - k) reading here)

@@ -40,7 +40,7 @@ code-shorter pool c =
     let fewer = flat-filter opaque_text (λ (a : OpaqueData). stays true pool a.name) c.attributes in
     omega (arith, old, new, fewer)
 
--- so many bytes as a part of their own
+-- that many bytes as a part of their own
 pub inner-length : {F : Type 0} (short : ℕ → F) (n : ℕ) (left inner next : Left) → inner_part short n left ≡ Ok (inner, next)
     → length inner.bytes ≡ n
 inner-length {F} short n left inner next e =

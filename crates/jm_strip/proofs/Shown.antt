@@ -1,4 +1,4 @@
--- A reading under a function of its value: so many of one kind, one after another, and what was read.
+-- A reading under a function of its value: that many of one kind, one after another, and what was read.
 use Rattle.std.proofs.Common.{◌≡◌, ℕ, suc, ◌+◌, ◌-◌, ◌<◌, List, ◌∷◌, Result, Ok, Err, IsErrAnd, refl, ap, ◌∙◌, arith}
 use Rattle.jm_bytes.specs.declared.faults.Or.{Or}
 use Rattle.jm_class.specs.declared.class.ClassFault.{ClassFault}
@@ -34,13 +34,13 @@ pub walk_stop : {U A B : Type 0} (data_of : U → B) (part : Outcome ClassFault 
 walk_stop data_of part all error result left next is gives stops = gives_stop (λ a. a) data_of part all error result left next is
     gives stops
 
--- the first one is taken into what is shown of those behind it
+-- the first one is taken into what is shown of those after it
 pub shown-cons : {F A B : Type 0} (all rest : List A → B) (x : A) → ((xs : List A) → all (x ∷ xs) ≡ rest xs)
     → (outcome : Outcome F (List A)) → shown all (continued outcome (λ xs. value (x ∷ xs))) ≡ shown rest outcome
 shown-cons all rest x same (Ok r) = let e = same r.0 in rw e refl
 shown-cons all rest x same (Err fault) = refl
 
--- So many of one kind: a state that each one changes, and what the state makes of those to come
+-- That many of one kind: a state that each one changes, and what the state makes of those to come
 
 module _ {F A B S : Type 0} (reading : Reading F A) (step : S → A → S) (all : S → List A → B) (same : (s : S) (x : A) (xs : List A)
     → all s (x ∷ xs) ≡ all (step s x) xs) where

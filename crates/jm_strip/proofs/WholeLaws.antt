@@ -20,7 +20,7 @@ use Rattle.jm_strip.specs.Walks.{shown, Strips}
 use Rattle.jm_strip.proofs.Shown.{saw}
 use Rattle.jm_strip.proofs.StripLaws.{strip-class}
 
--- no byte is left behind the class
+-- no byte is left after the class
 pub all_read : (bytes text : List ℕ) (next : Left) (n : ℕ) → shown (λ c. class_text (strip c))
     (reading Short class_fields (record { place = 0; bytes = bytes })) ≡ Ok (text, next) → n ≡ length next.bytes → n ≡ 0 → (c : ClassData)
     × (class_of bytes ≡ Ok c) × (text ≡ class_text (strip c))

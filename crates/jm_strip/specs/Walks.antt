@@ -23,13 +23,13 @@ nothing a = tt
 abbrev pub Skips : {A T : Type 0} → Outcome ClassFault A → Result T ClassFault → Left → Type 0
 Skips outcome result left = Reads nothing (shown nothing outcome) result left
 
--- the words of the value are put behind a text
+-- the words of the value are put after a text
 abbrev pub Puts : {A T : Type 0} → (A → List ℕ) → Outcome ClassFault A → Result T (Or ClassFault)
     → Left → List ℕ → List ℕ → Type 0
 Puts words outcome result left old new =
     Gives (λ _. new) (shown (λ a. old ++ words a) outcome) result left
 
--- the words of the values that pass a test are put behind a text, and counted
+-- the words of the values that pass a test are put after a text, and counted
 abbrev pub filtered : {A : Type 0} → (A → List ℕ) → (A → Bool) → List ℕ → List A → List ℕ × ℕ
 filtered words test text xs = (text ++ flat_map words (filter test xs), length (filter test xs))
 

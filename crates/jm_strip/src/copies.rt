@@ -39,7 +39,7 @@ pub fn copy16(
     Ok(())
 }
 
-/// A length of four bytes and so many bytes, as they are.
+/// A length of four bytes and that many bytes, as they are.
 pub fn copy_sized(
     cursor: &mut Cursor,
     text: &mut Vec<u8>,

@@ -74,7 +74,7 @@ impl<'a> Pool<'a> {
     }
 }
 
-/// The kinds of so many numbers of the pool. Room is asked for no more than the bytes can hold.
+/// The kinds of that many numbers of the pool. Room is asked for no more than the bytes can hold.
 fn kinds(
     alloc: Global,
     cursor: &mut Cursor,

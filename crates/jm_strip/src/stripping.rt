@@ -30,7 +30,7 @@ fn strip_attributes(
     keep_attributes(cursor, text, pool, Missing::Here, false)
 }
 
-/// The fields of a class: what stands in front of the methods goes as it is.
+/// The fields of a class: what stands before the methods goes as it is.
 fn strip_class(alloc: Global, bytes: &[u8], cursor: &mut Cursor) -> Result<Vec<u8>, Or<ClassFault>>
     requires { cursor.old ≡ record { place = 0; bytes = bytes.now } }
     ensures { Gives (λ text. text.items)
@@ -54,7 +54,7 @@ fn strip_class(alloc: Global, bytes: &[u8], cursor: &mut Cursor) -> Result<Vec<u
     Ok(text)
 }
 
-/// The text of a class of whatever release without its debug information, and nothing behind the
+/// The text of a class of whatever release without its debug information, and nothing after the
 /// class.
 fn whole(alloc: Global, bytes: &[u8]) -> Result<Text, Or<ClassFault>>
     ensures { Strips bytes.now result }

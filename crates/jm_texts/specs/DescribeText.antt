@@ -19,7 +19,7 @@ is_marked flags = not (bit_and flags 0x0020 == 0)
 abbrev pub word_if : Bool → List ℕ → List ℕ
 word_if there word = if there then word else []
 
--- a text in UTF-8 behind a comma
+-- a text in UTF-8 after a comma
 abbrev pub behind_comma : List ℕ → List ℕ
 behind_comma text = 44 ∷ shown text
 
@@ -33,7 +33,7 @@ abbrev pub listed_behind : List ℕ → List (List ℕ) → List ℕ
 listed_behind word [] = []
 listed_behind word (text ∷ texts) = word ++ listed (text ∷ texts)
 
--- one text behind a word, or nothing where there is none
+-- one text after a word, or nothing where there is none
 abbrev pub behind : List ℕ → Option (List ℕ) → List ℕ
 behind word None = []
 behind word (Some text) = word ++ shown text
@@ -50,7 +50,7 @@ need_line n =
     codes "requires " ++ word_if (is_marked n.flags) (codes "transitive ")
     ++ word_if (is_static n.flags) (codes "static ") ++ shown n.name ++ 10 ∷ []
 
--- the line of a package that is exported or opened, behind that word
+-- the line of a package that is exported or opened, after that word
 abbrev pub opened_line : List ℕ → Opened → List ℕ
 opened_line word p = word ++ shown p.package ++ listed_behind (codes " to ") p.to ++ 10 ∷ []
 

@@ -13,7 +13,7 @@ abbrev pub order_text : Order → List ℕ
 order_text Little = codes "little"
 order_text Big = codes "big"
 
--- the lines on what stands in front of the table, and on its length
+-- the lines on what stands before the table, and on its length
 abbrev pub front_text : Header → List ℕ
 front_text h =
     concat (codes "order " ∷ order_text h.order
@@ -21,7 +21,7 @@ front_text h =
     ∷ codes "\nentries " ∷ decimal h.count
     ∷ codes "\nslots " ∷ decimal h.length ∷ codes "\n" ∷ [])
 
--- the lines on the lengths of the parts, with so many bytes of contents
+-- the lines on the lengths of the parts, with that many bytes of contents
 abbrev pub lengths_text : Header → ℕ → List ℕ
 lengths_text h contents =
     concat (codes "locations " ∷ decimal h.locations
@@ -29,7 +29,7 @@ lengths_text h contents =
     ∷ codes "\nindex " ∷ decimal (index_length h)
     ∷ codes "\ncontents " ∷ decimal contents ∷ codes "\n" ∷ [])
 
--- the lines on a header, with so many bytes of contents
+-- the lines on a header, with that many bytes of contents
 abbrev pub header_text : Header → ℕ → List ℕ
 header_text h contents = front_text h ++ lengths_text h contents
 

@@ -1,4 +1,4 @@
--- What a command refuses in print: the kind, and the carried values, each behind a space (this
+-- What a command refuses in print: the kind, and the carried values, each after a space (this
 -- project's rule). Names of modules, packages, entries and resources, and paths of files, are put
 -- as they are shown.
 use Rattle.std.specs.Prelude.{ℕ, List, ◌∷◌, ◌++◌, codes}
@@ -11,7 +11,7 @@ use Rattle.jm_names.specs.declared.check.NameFault.TheVariants as fault_of
 use Rattle.jm_texts.specs.declared.refusal.Refusal.{Refusal}
 use Rattle.jm_texts.specs.declared.refusal.Refusal.TheVariants as refusal
 
--- the fault of a name in print: its kind, and the place behind a space
+-- the fault of a name in print: its kind, and the place after a space
 abbrev pub name_fault_text : NameFault → List ℕ
 name_fault_text fault_of.Empty = codes "Empty"
 name_fault_text fault_of.EmptyPart = codes "EmptyPart"
@@ -20,11 +20,11 @@ name_fault_text fault_of.Zero = codes "Zero"
 name_fault_text fault_of.TooLong = codes "TooLong"
 name_fault_text (fault_of.NotText at) = codes "NotText " ++ decimal at
 
--- a name as it is shown behind a space
+-- a name as it is shown after a space
 abbrev pub spaced : List ℕ → List ℕ
 spaced name = 32 ∷ shown name
 
--- a refusal in print: its kind, and each of its names and numbers behind a space
+-- a refusal in print: its kind, and each of its names and numbers after a space
 abbrev pub refusal_text : Refusal → List ℕ
 refusal_text (refusal.BadInfo path fault) =
     codes "BadInfo " ++ shown_text path ++ 32 ∷ descriptor_fault_text fault

@@ -16,7 +16,7 @@ fn order_name(order: Order) -> &'static str
     }
 }
 
-/// What `info` puts: nine lines on the header of an image that has so many bytes of contents.
+/// What `info` puts: nine lines on the header of an image that has that many bytes of contents.
 /// Answers want of memory alone.
 pub fn header_text(alloc: Global, header: &Header, contents: usize) -> Result<String, AllocError>
     ensures { IfOk result (λ text. string_bytes text ≡ header_text header.now contents) }

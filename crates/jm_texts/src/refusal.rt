@@ -54,10 +54,10 @@ pub enum Refusal {
     },
     /// This resource has the name of another one's folder.
     Clash(Text),
-    /// The image would have so many entries.
+    /// The image would have that many entries.
     TooMany(u64),
-    /// No table of so many lengths takes all names.
+    /// No table of that many lengths takes all names.
     NoTable(u32),
-    /// The image would have so many bytes; 0 where its strings alone are too many.
+    /// The image would have that many bytes; 0 where its strings alone are too many.
     TooLarge(u64),
 }

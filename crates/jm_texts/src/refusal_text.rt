@@ -14,7 +14,7 @@ use jm_modinfo::DescriptorFault;
 use jm_names::{NameFault, extend_shown, extend_shown_text};
 use std::alloc::Global;
 
-/// Puts a name behind a space at the end, as it is shown.
+/// Puts a name after a space at the end, as it is shown.
 fn extend_name(alloc: Global, text: &mut Vec<u8>, name: &Text) -> Result<(), NoMemory>
     ensures { OnOk result (text.new.items ≡ text.old.items ++ spaced name.now) }
 {
@@ -111,7 +111,7 @@ fn two_named(alloc: Global, kind: &[u8], name: &Text, other: &Text) -> Result<Ve
 }
 
 impl Refusal {
-    /// Its kind and the carried values, each behind a space. Names and paths are put as they are
+    /// Its kind and the carried values, each after a space. Names and paths are put as they are
     /// shown.
     pub fn text(&self, alloc: Global) -> Result<Vec<u8>, NoMemory>
         ensures { IfOk result (λ text. text.items ≡ refusal_text self.now) }
