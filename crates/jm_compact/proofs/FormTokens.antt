@@ -1,339 +1,353 @@
--- What a form takes is the text of some tokens; with other numbers, and from another start, it gives
--- the sites of the changed tokens: one law for each way to make forms.
-use Rattle.std.proofs.Common.{◌≡◌, ℕ, zero, suc, ◌+◌, ◌*◌, ◌^◌, ◌<◌, Bool, true, false, cond, List, []}
-use Rattle.std.proofs.Common.{◌∷◌, ◌++◌, length, map, replicate, Option, Some, None, Ok, refl, sym, ap, ◌∙◌}
-use Rattle.std.proofs.Common.{subst, arith, append_assoc, length-append}
-use Rattle.std.proofs.lemmas.List.{append-nil}
-use Rattle.std.specs.Int.{Width, w8, to_be_bytes}
-use Rattle.std.specs.Prelude.{◌==◌}
-use Rattle.jm_class.specs.Layouts.{U1, U2}
-use Rattle.jm_class.specs.Readings.{Left, Reading, value, continued, and_then, number}
-use Rattle.jm_class.proofs.ReadingLaws.{IsBytes, bytes_behind, same_left, same_value, Passed, passed, number-back}
+-- What a form takes is the text of some tokens; with other numbers, which have the same texts, it
+-- takes as many bytes from any place.
+use Rattle.std.proofs.Common.{◌≡◌, ℕ, zero, suc, ◌+◌, ◌-◌, ◌*◌, ◌^◌, ◌<◌, Bool, true, false, cond, List, []}
+use Rattle.std.proofs.Common.{◌∷◌, ◌++◌, length, Option, Some, None, Ok, refl, sym, ap, ◌∙◌}
+use Rattle.std.proofs.Common.{subst, arith, length-append}
+use Rattle.std.proofs.lemmas.Bool.{le-leb}
+use Rattle.std.proofs.lemmas.List.{append-nil, take_at, drop_at}
+use Rattle.std.specs.Int.{Width, w32, byte_len, from_be_bytes}
+use Rattle.std.specs.Prelude.{nat_le, ◌==◌}
+use Rattle.jm_class.specs.Layouts.{U1, U2, width}
+use Rattle.jm_class.specs.Readings.{Left, Reading, value, continued, and_then, part, number, whole}
+use Rattle.jm_class.proofs.ReadingLaws.{IsBytes, bytes_behind, bytes_front, same_left, same_value, passed, part-back}
+use Rattle.jm_class.proofs.ReadingLaws.{number-back, part_whole-back}
 use Rattle.jm_poolmap.specs.declared.site.FoundSite.{FoundSite}
-use Rattle.jm_poolmap.specs.Forms.{NoForm, Form, Rows, unfit, without, site_of_width, in_order, counted}
-use Rattle.jm_poolmap.specs.Forms.{at_most, run, form_if, row_of, by_byte}
-use Rattle.jm_poolmap.proofs.Following as following
-use Rattle.jm_compact.specs.Pieces.{Plain, Number, width, size}
-use Rattle.jm_compact.proofs.LocalReadings.{TookLocal, IsLocal, number_local}
-use Rattle.jm_compact.proofs.Tokens.{Token, token_text, found_from, changed, Fit, IsSmall, token_text-append}
-use Rattle.jm_compact.proofs.Tokens.{changed-append, length-changed, found_from-append, Fit-append}
+use Rattle.jm_poolmap.specs.Forms as form
+use Rattle.jm_poolmap.specs.Forms.{Form, Nothing, Never, Skip, Rest, Site, Named, Then, Sized, Run}
+use Rattle.jm_poolmap.specs.Forms.{NoForm, Texts, SiteReading, unfit, site_width, with_site, if_text, at_most, reads}
+use Rattle.jm_compact.specs.Pieces.{Plain, Number, size}
+use Rattle.jm_compact.proofs.Tokens.{Token, token_text, found_from, changed, Fit, Each, IsSmall, token_text-append}
+use Rattle.jm_compact.proofs.Tokens.{changed-append, length-changed, Fit-append, Each-left, Each-right, text_both, sites_both}
+use Rattle.jm_compact.proofs.Tokens.{number_read}
 
--- A form may see where all began (the filling of a switch), so it is one form for each start. What
--- may stand behind it is told by a word of the bytes that are left.
-module _ (Behind : List ℕ → Type 0) (form : ℕ → Form) where
-  -- with other numbers the form takes as many bytes of the tokens, from any start
-  abbrev pub Again : ℕ → List Token → Type 0
-  Again n tokens = (number : ℕ → ℕ) → IsSmall number → (other : ℕ) (met : List FoundSite) (more : List ℕ) → Behind more
-      → form other met (record { place = other + n; bytes = token_text (changed number tokens) ++ more })
-      ≡ Ok (
-        met ++ found_from (other + n) (changed number tokens),
-        record {
-          place = other + (n + length (token_text tokens));
-          bytes = more;
-        },
-      )
+-- what is read by the texts of constants and by the place where the reading began, which tells the
+-- items of a run
+abbrev Reader : Type 0
+Reader = Texts → ℕ → SiteReading
 
-  -- what the form takes that stands n bytes behind its start
-  pub record Told (start n : ℕ) (found : List FoundSite) (all : List ℕ) (new : List FoundSite) (next : Left) : Type 0 where
-    pub tokens : List Token
-    pub rest : List ℕ
-    pub fit : Fit tokens
-    pub bytes : all ≡ token_text tokens ++ rest
-    pub left : next ≡ record { place = start + (n + length (token_text tokens)); bytes = rest }
-    pub sites : new ≡ found ++ found_from (start + n) tokens
-    pub again : Again n tokens
+abbrev of : Form → Reader
+of form texts start = reads texts form
 
-  abbrev pub Moves : Type 0
-  Moves = (start n : ℕ) (found : List FoundSite) (all : List ℕ) (new : List FoundSite) (next : Left) → IsBytes all → Behind next.bytes
-      → form start found (record { place = start + n; bytes = all }) ≡ Ok (new, next) → Told start n found all new next
+-- nothing more is read
+abbrev finished : Reader
+finished texts start found = value found
 
--- the same tokens, of which another form takes as many bytes
-told_again : (Behind Other : List ℕ → Type 0) (form other : ℕ → Form) (start n : ℕ) (found : List FoundSite) (all : List ℕ)
-    (new : List FoundSite) (next : Left) (told : Told Behind form start n found all new next) → Again Other other n told.tokens
-    → Told Other other start n found all new next
-told_again Behind Other form other start n found all new next told again = record {
+abbrev both : Reader → Reader → Reader
+both one two texts start found = and_then (one texts start found) (two texts start)
+
+-- what stands from a place on, up to what is left, is the text of some tokens, of which something
+-- holds
+pub record Taken (Holds : List Token → Type 0) (found : List FoundSite) (left : Left) (new : List FoundSite) (next : Left) : Type 0 where
+  pub tokens : List Token
+  pub fit : Fit tokens
+  pub bytes : left.bytes ≡ token_text tokens ++ next.bytes
+  pub place : next.place ≡ left.place + length (token_text tokens)
+  pub sites : new ≡ found ++ found_from left.place tokens
+  pub again : Holds tokens
+
+taken_as : {Holds Others : List Token → Type 0} {found : List FoundSite} {left : Left} {new : List FoundSite} {next : Left}
+    → (told : Taken Holds found left new next) → Others told.tokens → Taken Others found left new next
+taken_as told again = record {
   tokens = told.tokens;
-  rest = told.rest;
   fit = told.fit;
   bytes = told.bytes;
-  left = told.left;
+  place = told.place;
   sites = told.sites;
   again = again;
 }
 
--- anything may stand behind, or nothing
-abbrev pub Anything : List ℕ → Type 0
-Anything bytes = Unit {0}
+-- what a form takes; over its tokens with other numbers, which have the same texts, it takes as
+-- many bytes from any place
+abbrev pub Tells : Texts → Form → List FoundSite → Left → List FoundSite → Left → Type 0
+Tells texts form found left new next = Taken (λ tokens. (number : ℕ → ℕ) → IsSmall number → (others : Texts)
+    → Each (λ n. others (number n) ≡ texts n) tokens → (met : List FoundSite) (place : ℕ) (more : List ℕ)
+    → length more ≡ length next.bytes
+    → reads others form met (record { place = place; bytes = token_text (changed number tokens) ++ more })
+    ≡ Ok (met ++ found_from place (changed number tokens), record { place = place + length (token_text tokens); bytes = more }))
+    found left new next
 
-abbrev pub Nothing : List ℕ → Type 0
-Nothing bytes = bytes ≡ []
+-- the same of a reader, after which another one goes on; with other numbers as many bytes stand
+-- between the place where the reading began and the first one of the tokens
+abbrev Goes : Reader → Reader → Texts → ℕ → List FoundSite → Left → List FoundSite → Left → Type 0
+Goes reader after texts start found left new next = Taken (λ tokens. (number : ℕ → ℕ) → IsSmall number → (others : Texts)
+    → Each (λ n. others (number n) ≡ texts n) tokens → (met : List FoundSite) (begin at : ℕ) → at + start ≡ begin + left.place
+    → (more : List ℕ) → length more ≡ length next.bytes
+    → reader others begin met (record { place = at; bytes = token_text (changed number tokens) ++ more })
+    ≡ after others begin (met ++ found_from at (changed number tokens)) (record {
+      place = at + length (token_text tokens);
+      bytes = more;
+    })) found left new next
 
--- a form that moves, whatever stands behind
-abbrev pub Tells : Form → Type 0
-Tells form = Moves Anything (λ _. form)
+abbrev Moves : Reader → Type 0
+Moves reader = (texts : Texts) (start : ℕ) (found : List FoundSite) (left : Left) (new : List FoundSite) (next : Left)
+    → IsBytes left.bytes → reader texts start found left ≡ Ok (new, next) → Goes reader finished texts start found left new next
 
--- what is read, and a form that it tells
-abbrev pub by_value : {A : Type 0} → (ℕ → Reading NoForm A) → (A → ℕ → Form) → ℕ → Form
-by_value reading form start found = and_then (reading start) (λ a. form a start found)
+-- with other numbers there are as many bytes
+size_again : {Holds : List Token → Type 0} {found : List FoundSite} {left : Left} {new : List FoundSite} {next : Left}
+    → (told : Taken Holds found left new next) (number : ℕ → ℕ) (more : List ℕ) → length more ≡ length next.bytes
+    → length (token_text (changed number told.tokens) ++ more) ≡ length left.bytes
+size_again {next} told number more size =
+    length-append (token_text (changed number told.tokens)) more
+    ∙ rw (length-changed number told.tokens, size) (sym (length-append (token_text told.tokens) next.bytes))
+    ∙ ap length (sym told.bytes)
 
--- one form behind another
-abbrev pub both : (ℕ → Form) → (ℕ → Form) → ℕ → Form
-both form other start found = and_then (form start found) (other start)
+finished_moves : Moves finished
+finished_moves texts start found left new next bytes e =
+    rw (sym (same_value {F = NoForm} found new left next e), sym (same_left {F = NoForm} found new left next e)) record {
+      tokens = [];
+      fit = tt;
+      bytes = refl;
+      place = omega arith;
+      sites = sym (append-nil found);
+      again = λ number small others each met begin at same more size.
+          let place : at + 0 ≡ at = omega arith in rw (place, append-nil met) refl;
+    }
 
-places : (start n one two all : ℕ) → all ≡ one + two → start + ((n + one) + two) ≡ start + (n + all)
-places start n one two all size = omega (arith, size)
+never_moves : Moves (of Never)
+never_moves texts start found left new next bytes e = cc
 
--- the text and the sites of tokens behind others
-text_behind : (number : ℕ → ℕ) (xs ys : List Token) (more : List ℕ) → token_text (changed number (xs ++ ys)) ++ more
-    ≡ token_text (changed number xs) ++ (token_text (changed number ys) ++ more)
-text_behind number xs ys more =
-    ap (λ t. token_text t ++ more) (changed-append number xs ys)
-    ∙ ap (λ t. t ++ more) (token_text-append (changed number xs) (changed number ys))
-    ∙ append_assoc (token_text (changed number xs)) (token_text (changed number ys)) more
+-- Walks one after the other
 
-sites_behind : (met : List FoundSite) (start n size : ℕ) (xs ys : List Token) → size ≡ length (token_text xs)
-    → (met ++ found_from (start + n) xs) ++ found_from (start + (n + size)) ys ≡ met ++ found_from (start + n) (xs ++ ys)
-sites_behind met start n size xs ys is =
-    let place : start + (n + size) ≡ (start + n) + length (token_text xs) = omega (arith, is) in
-    append_assoc met (found_from (start + n) xs) (found_from (start + (n + size)) ys)
-    ∙ ap (λ m. met ++ (found_from (start + n) xs ++ found_from m ys)) place
-    ∙ ap (λ t. met ++ t) (sym (found_from-append (start + n) xs ys))
-
-module _ (Behind : List ℕ → Type 0) where
-  pub anything_moves : (form : ℕ → Form) → Moves Anything form → Moves Behind form
-  anything_moves form law start n found all new next bytes behind e =
-      let told = law start n found all new next bytes tt e in
-      told_again Anything Behind form form start n found all new next told (λ number small other met more behind.
-      told.again number small other met more tt)
-
-  -- nothing is taken
-  pub value_moves : Moves Behind (λ _ found. value found)
-  value_moves start n found all new next bytes behind e =
-      let same = same_value {F = NoForm} found new (record { place = start + n; bytes = all }) next e in
-      let left = same_left {F = NoForm} found new (record { place = start + n; bytes = all }) next e in
+module _ (reader middle : Reader) (texts : Texts) (start : ℕ) {found : List FoundSite} {left : Left} {between : List FoundSite}
+    {now : Left} {new : List FoundSite} {next : Left} where
+  -- a reader that goes on as another one, of which the law is known
+  onward : Goes reader middle texts start found left between now → Moves middle → IsBytes left.bytes
+      → middle texts start between now ≡ Ok (new, next) → Goes reader finished texts start found left new next
+  onward one law bytes e =
+      let two = law _ _ _ _ _ _ (bytes_behind (token_text one.tokens) now.bytes (subst IsBytes one.bytes bytes)) e in
+      let lengths : length (token_text (one.tokens ++ two.tokens)) ≡ length (token_text one.tokens) + length (token_text two.tokens)
+      = ap length (token_text-append one.tokens two.tokens) ∙ length-append (token_text one.tokens) (token_text two.tokens) in
       record {
-        tokens = [];
-        rest = all;
-        fit = tt;
-        bytes = refl;
-        left = let place : start + (n + 0) ≡ start + n = omega arith in rw place (sym left);
-        sites = sym same ∙ sym (append-nil found);
-        again = λ number small other met more behind.
-            let place : other + (n + 0) ≡ other + n = omega arith in rw (place, append-nil met) refl;
+        tokens = one.tokens ++ two.tokens;
+        fit = Fit-append one.tokens two.tokens one.fit two.fit;
+        bytes = one.bytes ∙ ap (λ t. token_text one.tokens ++ t) two.bytes ∙ sym (text_both one.tokens two.tokens next.bytes);
+        place = omega (arith, lengths, one.place, two.place);
+        sites = two.sites ∙ ap (λ t. t ++ found_from now.place two.tokens) one.sites
+            ∙ sites_both found left.place now.place one.tokens two.tokens one.place;
+        again = λ number small others each met begin at same more size.
+            let xs = changed number one.tokens in
+            let ys = changed number two.tokens in
+            let then = at + length (token_text one.tokens) in
+            let place : then + length (token_text two.tokens) ≡ at + length (token_text (one.tokens ++ two.tokens))
+            = omega (arith, lengths) in
+            rw (changed-append number one.tokens two.tokens, text_both xs ys more)
+            (one.again number small others (Each-left _ one.tokens two.tokens each) met begin at same (token_text ys ++ more)
+            (size_again two number more size)
+            ∙ two.again number small others (Each-right _ one.tokens two.tokens each) (met ++ found_from at xs) begin then
+            (omega (arith, same, one.place)) more size
+            ∙ rw (sites_both met at then xs ys (ap (λ m. at + m) (sym (length-changed number one.tokens))), place) refl);
       }
 
-  module _ {A : Type 0} (reading : ℕ → Reading NoForm A) (form : A → ℕ → Form) (local : IsLocal reading) (law : (a : A)
-      → Moves Behind (form a)) where
-    by_value_told : (start n : ℕ) (found : List FoundSite) (all : List ℕ) (new : List FoundSite) (a : A) (middle next : Left)
-        (one : TookLocal reading start n all a middle) → Told Behind (form a) start (n + length one.taken) found one.rest new next
-        → Told Behind (by_value reading form) start n found all new next
-    by_value_told start n found all new a middle next one two =
-        let size = length-append one.taken (token_text two.tokens) in
-        let first : (begin : ℕ) → begin + (n + length one.taken) ≡ (begin + n) + length one.taken = λ begin. omega arith in
-        record {
-          tokens = Plain one.taken ∷ two.tokens;
-          rest = two.rest;
-          fit = two.fit;
-          bytes = one.bytes ∙ ap (λ t. one.taken ++ t) two.bytes ∙ sym (append_assoc one.taken (token_text two.tokens) two.rest);
-          left = two.left ∙ ap (λ m. record { place = m; bytes = two.rest }) (places start n (length one.taken)
-              (length (token_text two.tokens)) (length (one.taken ++ token_text two.tokens)) size);
-          sites = two.sites ∙ ap (λ m. found ++ found_from m two.tokens) (first start);
-          again = λ number small other met more behind.
-              let first_again = one.again other (token_text (changed number two.tokens) ++ more) in
-              let second_again = two.again number small other met more behind in
-              rw (
-                append_assoc one.taken (token_text (changed number two.tokens)) more,
-                first_again,
-                second_again,
-                first other,
-                places other n (length one.taken) (length (token_text two.tokens)) (length (one.taken ++ token_text two.tokens))
-                    size,
-              ) refl;
-        }
+both_move : (one two : Reader) → Moves one → Moves two → Moves (both one two)
+both_move one two first second texts start found left new next bytes e =
+    let got = passed (one texts start found left) (two texts start) new next e in
+    let told = first _ _ _ _ _ _ bytes got.is in
+    onward (both one two) two texts start (taken_as told (λ number small others each met begin at same more size.
+    ap (λ r. continued r (two others begin)) (told.again number small others each met begin at same more size))) second bytes got.rest
 
-    pub by_value_moves : Moves Behind (by_value reading form)
-    by_value_moves start n found all new next bytes behind e =
-        go (passed (reading start (record { place = start + n; bytes = all })) (λ a. form a start found) new next e)
-      where
-        go : Passed (reading start (record { place = start + n; bytes = all })) (λ a. form a start found) new next
-            → Told Behind (by_value reading form) start n found all new next
-        go got =
-            let one = local start n all got.first got.middle got.is in
-            let two = law got.first start (n + length one.taken) found one.rest new next (bytes_behind one.taken one.rest
-            (subst IsBytes one.bytes bytes)) behind (ap (form got.first start found) (sym one.left) ∙ got.rest) in
-            by_value_told start n found all new got.first got.middle next one two
+-- Bytes without a site, and what follows them
 
-  module _ (form other : ℕ → Form) (first : Moves Anything form) (second : Moves Behind other) where
-    both_told : (start n : ℕ) (found : List FoundSite) (all : List ℕ) (between : List FoundSite) (middle : Left) (new : List FoundSite)
-        (next : Left) (one : Told Anything form start n found all between middle)
-        → Told Behind other start (n + length (token_text one.tokens)) between one.rest new next
-        → Told Behind (both form other) start n found all new next
-    both_told start n found all between middle new next one two =
-        let text = token_text-append one.tokens two.tokens in
-        let size : length (token_text (one.tokens ++ two.tokens)) ≡ length (token_text one.tokens) + length (token_text two.tokens)
-        = ap length text ∙ length-append (token_text one.tokens) (token_text two.tokens) in
-        record {
-          tokens = one.tokens ++ two.tokens;
-          rest = two.rest;
-          fit = Fit-append one.tokens two.tokens one.fit two.fit;
-          bytes = one.bytes ∙ ap (λ t. token_text one.tokens ++ t) two.bytes
-              ∙ sym (append_assoc (token_text one.tokens) (token_text two.tokens) two.rest) ∙ ap (λ t. t ++ two.rest) (sym text);
-          left = two.left ∙ ap (λ m. record { place = m; bytes = two.rest }) (places start n (length (token_text one.tokens))
-              (length (token_text two.tokens)) (length (token_text (one.tokens ++ two.tokens))) size);
-          sites = two.sites ∙ rw one.sites (sites_behind found start n (length (token_text one.tokens)) one.tokens two.tokens refl);
-          again = λ number small begin met more behind.
-              let first_again = one.again number small begin met (token_text (changed number two.tokens) ++ more) tt in
-              let second_again = two.again number small begin (met ++ found_from (begin + n) (changed number one.tokens)) more behind in
-              let sites = sites_behind met begin n (length (token_text one.tokens)) (changed number one.tokens)
-              (changed number two.tokens) (sym (length-changed number one.tokens)) in
-              rw (
-                text_behind number one.tokens two.tokens more,
-                changed-append number one.tokens two.tokens,
-                first_again,
-                second_again,
-                sites,
-                places begin n (length (token_text one.tokens)) (length (token_text two.tokens))
-                    (length (token_text (one.tokens ++ two.tokens))) size,
-              ) refl;
-        }
+part_prefix : (n at : ℕ) (xs more : List ℕ) → length xs ≡ n → part unfit n (record { place = at; bytes = xs ++ more })
+    ≡ Ok (xs, record { place = at + length xs; bytes = more })
+part_prefix n at xs more size =
+    let test : nat_le (length xs) (length (xs ++ more)) ≡ true = le-leb _ _ (omega (arith, length-append xs more)) in
+    rw (sym size, test, take_at xs more (length xs) refl, drop_at xs more (length xs) refl) refl
 
-    pub both_moves : Moves Behind (both form other)
-    both_moves start n found all new next bytes behind e = go (passed (form start found (record { place = start + n; bytes = all }))
-        (other start) new next e)
-      where
-        go : Passed (form start found (record { place = start + n; bytes = all })) (other start) new next
-            → Told Behind (both form other) start n found all new next
-        go got =
-            let one = first start n found all got.first got.middle bytes tt got.is in
-            let two = second start (n + length (token_text one.tokens)) got.first one.rest new next
-            (bytes_behind (token_text one.tokens) one.rest (subst IsBytes one.bytes bytes)) behind
-            (ap (other start got.first) (sym one.left) ∙ got.rest) in
-            both_told start n found all got.first got.middle new next one two
+-- the place after what was read, where reading it once more tells that
+place_after : {A : Type 0} (reading : Reading NoForm A) (a : A) (left next : Left) (text : List ℕ) (place : ℕ) → reading left ≡ Ok (a, next)
+    → left.bytes ≡ text → reading (record { place = left.place; bytes = text }) ≡ Ok (a, record { place = place; bytes = next.bytes })
+    → next.place ≡ place
+place_after reading a left next text place e is again =
+    ap (λ (l : Left). l.place) (same_left {F = NoForm} a a next (record { place = place; bytes = next.bytes })
+    (sym e ∙ ap (λ t. reading (record { place = left.place; bytes = t })) is ∙ again))
 
--- Sites
+-- a reader that takes some bytes, and goes on by what they are
+plain_moves : (reader after : Reader) (texts : Texts) (start : ℕ) (found : List FoundSite) (left now : Left) (n : ℕ) (xs : List ℕ)
+    (new : List FoundSite) (next : Left) → part unfit n left ≡ Ok (xs, now) → ((others : Texts) (begin : ℕ) (met : List FoundSite)
+    (at end : Left) → part unfit n at ≡ Ok (xs, end) → reader others begin met at ≡ after others begin met end) → Moves after
+    → IsBytes left.bytes → after texts start found now ≡ Ok (new, next) → Goes reader finished texts start found left new next
+plain_moves reader after texts start found left now n xs new next is goes_on law bytes e =
+    let took = part-back unfit n left now xs is in
+    onward reader after texts start (record {
+      tokens = Plain xs ∷ [];
+      fit = tt;
+      bytes = rw (append-nil xs) took.1;
+      place = rw (append-nil xs) (place_after (part unfit n) xs left now _ _ is took.1 (part_prefix n left.place xs now.bytes took.0));
+      sites = sym (append-nil found);
+      again = λ number small others each met begin at same more size.
+          rw (append-nil xs, append-nil met) (goes_on others begin met _ _ (part_prefix n at xs more took.0));
+    }) law bytes e
 
-number_front : (wide : Bool) (place n : ℕ) (rest : List ℕ) → n < 2 ^ (8 * size wide)
-    → number unfit (width wide) (record { place = place; bytes = to_be_bytes (width wide) n ++ rest })
-    ≡ Ok (n, record { place = place + size wide; bytes = rest })
-number_front true = following.number_front U2
-number_front false = following.number_front U1
+skip_moves : (n : ℕ) → Moves (of (Skip n))
+skip_moves n texts start found left new next bytes e =
+    let got = passed (part unfit n left) (λ bytes. value found) new next e in
+    plain_moves (of (Skip n)) finished texts start found left got.middle n got.first new next got.is
+    (λ others begin met at end is. rw is refl) finished_moves bytes got.rest
 
-number_back : (wide : Bool) (left next : Left) (n : ℕ) → IsBytes left.bytes → number unfit (width wide) left ≡ Ok (n, next)
-    → (n < 2 ^ (8 * size wide)) × (left.bytes ≡ to_be_bytes (width wide) n ++ next.bytes)
-number_back true = number-back unfit U2
-number_back false = number-back unfit U1
+-- a number, and what follows it
+abbrev by_number : Width → (ℕ → Reader) → Reader
+by_number w following texts start found = and_then (number unfit w) (λ n. following n texts start found)
 
-pub number_size : (wide : Bool) (n : ℕ) → length (to_be_bytes (width wide) n) ≡ size wide
-number_size true n = refl
-number_size false n = refl
+by_number_moves : (w : Width) (following : ℕ → Reader) → ((n : ℕ) → Moves (following n)) → Moves (by_number w following)
+by_number_moves w following law texts start found left new next bytes e =
+    let number_got = passed (number unfit w left) (λ n. following n texts start found) new next e in
+    let got = passed (part unfit (byte_len w) left) (λ bytes. value (from_be_bytes w bytes)) number_got.first number_got.middle
+    number_got.is in
+    let n = from_be_bytes w got.first in
+    let rest = ap (λ o. continued (continued o (λ bytes. value (from_be_bytes w bytes))) (λ n. following n texts start found)) got.is in
+    plain_moves (by_number w following) (following n) texts start found left got.middle (byte_len w) got.first new next got.is
+    (λ others begin met at end is. rw is refl) (law n) bytes (sym rest ∙ e)
 
-pub site_tells : (wide optional : Bool) → Tells (site_of_width (width wide) wide optional)
-site_tells wide optional start n found all new next bytes behind e =
-    go (passed (number unfit (width wide) here) (λ number. value (found ++ at start number ∷ [])) new next e)
-  where
-    here : Left
-    here = record { place = start + n; bytes = all }
+-- A number at a site, and what follows it
 
-    at : ℕ → ℕ → FoundSite
-    at begin number = record { place = begin + n; wide = wide; optional = optional; number = number }
+abbrev site_text : Bool → Bool → ℕ → List ℕ
+site_text wide optional n = token_text (Number wide (optional, n) ∷ [])
 
-    go : Passed (number unfit (width wide) here) (λ number. value (found ++ at start number ∷ [])) new next
-        → Told Anything (λ _. site_of_width (width wide) wide optional) start n found all new next
-    go got =
-        let took = number_back wide here got.middle got.first bytes got.is in
-        let sites = same_value {F = NoForm} (found ++ at start got.first ∷ []) new got.middle next got.rest in
-        let left = same_left {F = NoForm} (found ++ at start got.first ∷ []) new got.middle next got.rest in
-        let front = number_front wide (start + n) got.first got.middle.bytes took.0 in
-        let middle : record { place = (start + n) + size wide; bytes = got.middle.bytes } ≡ got.middle =
-        same_left {F = NoForm} got.first got.first (record { place = (start + n) + size wide; bytes = got.middle.bytes })
-        got.middle (sym front ∙ ap (λ t. number unfit (width wide) (record { place = start + n; bytes = t }))
-        (sym took.1) ∙ got.is) in
-        let text : (m : ℕ) → to_be_bytes (width wide) m ++ [] ≡ to_be_bytes (width wide) m = λ m. append-nil (to_be_bytes (width wide) m) in
-        let size_is : length (to_be_bytes (width wide) got.first ++ []) ≡ size wide = ap length (text got.first)
-        ∙ number_size wide got.first in
-        let place : (begin : ℕ) → (begin + n) + size wide ≡ begin + (n + length (to_be_bytes (width wide) got.first ++ [])) =
-        λ begin. omega (arith, size_is) in
-        record {
-          tokens = Number wide (optional, got.first) ∷ [];
-          rest = got.middle.bytes;
-          fit = (took.0, tt);
-          bytes = took.1 ∙ ap (λ t. t ++ got.middle.bytes) (sym (text got.first));
-          left = sym left ∙ sym middle ∙ ap (λ m. record { place = m; bytes = got.middle.bytes }) (place start);
-          sites = sym sites;
-          again = λ number small other met more behind.
-              let less = small got.first in
-              let below : number got.first < 2 ^ (8 * size wide) = let fits = took.0 in omega (arith, less, fits) in
-              ap (λ t. site_of_width (width wide) wide optional met (record { place = other + n; bytes = t ++ more }))
-              (text (number got.first))
-              ∙ ap (λ o. continued o (λ number. value (met ++ at other number ∷ []))) (number_front wide (other + n)
-              (number got.first) more below)
-              ∙ ap (λ m. Ok (met ++ at other (number got.first) ∷ [], record { place = m; bytes = more })) (place other);
-        }
+site_prefix : (wide optional : Bool) (at n : ℕ) (more : List ℕ) → n < 2 ^ (8 * size wide)
+    → number unfit (site_width wide) (record { place = at; bytes = site_text wide optional n ++ more })
+    ≡ Ok (n, record { place = at + length (site_text wide optional n); bytes = more })
+site_prefix true optional at n more below =
+    rw (part_prefix 2 at (site_text true optional n) more refl, number_read true n below) refl
+site_prefix false optional at n more below =
+    rw (part_prefix 1 at (site_text false optional n) more refl, number_read false n below) refl
 
--- Forms that are made of others
+site_took : (wide optional : Bool) (left next : Left) (n : ℕ) → IsBytes left.bytes → number unfit (site_width wide) left ≡ Ok (n, next)
+    → (n < 2 ^ (8 * size wide)) × (left.bytes ≡ site_text wide optional n ++ next.bytes)
+site_took true optional = number-back unfit U2
+site_took false optional = number-back unfit U1
 
-pub without_moves : {A : Type 0} (reading : ℕ → Reading NoForm A) → IsLocal reading → Moves Anything (λ start. without (reading start))
-without_moves reading local = by_value_moves Anything reading (λ a _ found. value found) local (λ a. value_moves Anything)
+-- the text of what has the number may tell what follows
+abbrev by_site : (wide optional : Bool) → (Option (List ℕ) → Reader) → Reader
+by_site wide optional following texts start found left =
+    and_then (number unfit (site_width wide))
+    (λ n. following (texts n) texts start (with_site found left.place wide optional n)) left
 
-pub in_order_tells : {A : Type 0} (form : A → Form) → ((a : A) → Tells (form a)) → (xs : List A) → Tells (in_order (map form xs))
-in_order_tells form each [] = value_moves Anything
-in_order_tells form each (x ∷ xs) = both_moves Anything (λ _. form x) (λ _. in_order (map form xs)) (each x) (in_order_tells form each xs)
+by_site_moves : (wide optional : Bool) (following : Option (List ℕ) → Reader) → ((name : Option (List ℕ)) → Moves (following name))
+    → Moves (by_site wide optional following)
+by_site_moves wide optional following law texts start found left new next bytes e =
+    let got = passed (number unfit (site_width wide) left)
+    (λ n. following (texts n) texts start (with_site found left.place wide optional n)) new next e in
+    let n = got.first in
+    let took = site_took wide optional left got.middle n bytes got.is in
+    onward (by_site wide optional following) (following (texts n)) texts start (record {
+      tokens = Number wide (optional, n) ∷ [];
+      fit = (took.0, tt);
+      bytes = took.1;
+      place = place_after (number unfit (site_width wide)) n left got.middle _ _ got.is took.1
+          (site_prefix wide optional left.place n got.middle.bytes took.0);
+      sites = refl;
+      again = λ number small others each met begin at same more size.
+          let here = site_prefix wide optional at (number n) more (omega (arith, small n, took.0)) in
+          rw (sym (length-changed number (Number wide (optional, n) ∷ [])), here, each.0) refl;
+    }) (law (texts n)) bytes got.rest
 
-pub replicate_tells : (form : Form) → Tells form → (k : ℕ) → Tells (in_order (replicate k form))
-replicate_tells form law zero = value_moves Anything
-replicate_tells form law (suc k) = both_moves Anything (λ _. form) (λ _. in_order (replicate k form)) law (replicate_tells form law k)
+abbrev by_text : (List ℕ → Form) → Option (List ℕ) → Reader
+by_text form name texts start = if_text name (λ text. reads texts (form text))
 
-pub counted_tells : (w : Width) (form : Form) → Tells form → Tells (counted w form)
-counted_tells w form law = by_value_moves Anything (λ _. number unfit w) (λ count _. in_order (replicate count form))
-    (number_local w) (replicate_tells form law)
+by_text_moves : (form : List ℕ → Form) → ((text : List ℕ) → Moves (of (form text))) → (name : Option (List ℕ)) → Moves (by_text form name)
+by_text_moves form law None = never_moves
+by_text_moves form law (Some text) = law text
 
-pub form_if_moves : {A : Type 0} (Behind : List ℕ → Type 0) (form : ℕ → A → Form) → ((a : A) → Moves Behind (λ start. form start a))
-    → (row : Option A) → Moves Behind (λ start. form_if (form start) row)
-form_if_moves Behind form each None start n found all new next bytes behind e = cc
-form_if_moves Behind form each (Some row) start n found all new next bytes behind e = each row start n found all new next bytes behind e
+-- Bytes of which it is known how many there are
 
-pub by_byte_moves : {A : Type 0} (rows : Rows A) (form : ℕ → A → Form) → ((a : A) → Moves Anything (λ start. form start a))
-    → Moves Anything (λ start. by_byte rows (form start))
-by_byte_moves rows form each = by_value_moves Anything (λ _. number unfit w8) (λ byte start. form_if (form start)
-    (row_of rows byte)) (number_local w8) (λ byte. form_if_moves Anything form each (row_of rows byte))
+-- a part that a reader takes whole
+whole_prefix : (reading : Reading NoForm (List FoundSite)) (n at end : ℕ) (new : List FoundSite) (text more : List ℕ) → length text ≡ n
+    → reading (record { place = at; bytes = text }) ≡ Ok (new, record { place = end; bytes = [] })
+    → whole unfit unfit n reading (record { place = at; bytes = text ++ more })
+    ≡ Ok (new, record { place = at + length text; bytes = more })
+whole_prefix reading n at end new text more size is = rw (part_prefix n at text more size, is) refl
 
--- Forms up to the last byte
+abbrev whole_of : Form → ℕ → Reader
+whole_of inner n texts start found = whole unfit unfit n (reads texts inner found)
 
--- a form by the number of all bytes: changed tokens have as many
-pub by_size_moves : (form : ℕ → ℕ → Form) → ((k : ℕ) → Moves Nothing (form k))
-    → Moves Nothing (λ start found left. form (length left.bytes) start found left)
-by_size_moves form law start n found all new next bytes behind e = go (law (length all) start n found all new next bytes behind e)
-  where
-    go : Told Nothing (form (length all)) start n found all new next
-        → Told Nothing (λ start found left. form (length left.bytes) start found left) start n found all new next
-    go told =
-        let none : told.rest ≡ [] = ap (λ (l : Left). l.bytes) (sym told.left) ∙ behind in
-        let size : (number : ℕ → ℕ) (more : List ℕ) → more ≡ [] → length (token_text (changed number told.tokens) ++ more)
-        ≡ length all = λ number more ends.
-        ap (λ t. length (token_text (changed number told.tokens) ++ t)) ends
-        ∙ ap length (append-nil (token_text (changed number told.tokens)))
-        ∙ length-changed number told.tokens
-        ∙ ap length (sym (append-nil (token_text told.tokens)))
-        ∙ ap (λ t. length (token_text told.tokens ++ t)) (sym none)
-        ∙ ap length (sym told.bytes) in
-        told_again Nothing Nothing (form (length all)) (λ start found left. form (length left.bytes) start found left) start n found all
-        new next told (λ number small other met more ends.
-        ap (λ k. form k other met (record { place = other + n; bytes = token_text (changed number told.tokens) ++ more }))
-        (size number more ends)
-        ∙ told.again number small other met more ends)
+whole_moves : (inner : Form) → Moves (of inner) → (n : ℕ) → Moves (whole_of inner n)
+whole_moves inner law n texts start found left new next bytes e =
+    let took = part_whole-back unfit (reads texts inner found) unfit n left next new e in
+    let inside = bytes_front took.inside next.bytes (subst IsBytes took.bytes bytes) in
+    let told = law texts start found (record { place = left.place; bytes = took.inside }) new took.all.end inside took.all.is in
+    let text : took.inside ≡ token_text told.tokens = told.bytes ∙ rw (took.all.none, append-nil (token_text told.tokens)) refl in
+    record {
+      tokens = told.tokens;
+      fit = told.fit;
+      bytes = took.bytes ∙ ap (λ t. t ++ next.bytes) text;
+      place = place_after (whole_of inner n texts start found) new left next _ _ e took.bytes (whole_prefix (reads texts inner found) n
+          left.place took.all.end.place new took.inside next.bytes took.size
+          (took.all.is ∙ ap (λ t. Ok (new, record { place = took.all.end.place; bytes = t })) took.all.none))
+          ∙ ap (λ t. left.place + length t) text;
+      sites = told.sites;
+      again = λ number small others each met begin at same more sizes.
+          let xs = changed number told.tokens in
+          let size = length-changed number told.tokens in
+          let inner_again = told.again number small others each met begin at same [] (ap length (sym took.all.none)) in
+          whole_prefix (reads others inner met) n at _ (met ++ found_from at xs) (token_text xs) more
+          (size ∙ ap length (sym text) ∙ took.size) (ap (λ t. reads others inner met (record { place = at; bytes = t }))
+          (sym (append-nil (token_text xs))) ∙ inner_again)
+          ∙ ap (λ m. Ok (met ++ found_from at xs, record { place = at + m; bytes = more })) size;
+    }
 
-if_moves : (test : Bool) (form other : ℕ → Form) → Moves Nothing form → Moves Nothing other
-    → Moves Nothing (λ start found left. cond test (form start found left) (other start found left))
-if_moves true form other one two = one
-if_moves false form other one two = two
+-- a reader by what is the same with other numbers: how many bytes there are, and how many stand
+-- before
+module _ {A : Type 0} (key : ℕ → Left → A) (agrees : (begin start : ℕ) (now left : Left) → now.place + start ≡ begin + left.place
+    → length now.bytes ≡ length left.bytes → key begin now ≡ key start left) (reader : A → Reader) where
+  by_key_moves : ((a : A) → Moves (reader a)) → Moves (λ texts start found left. reader (key start left) texts start found left)
+  by_key_moves law texts start found left new next bytes e =
+      let told = law (key start left) texts start found left new next bytes e in
+      taken_as told (λ number small others each met begin at same more size.
+      let text = token_text (changed number told.tokens) ++ more in
+      rw (agrees begin start (record { place = at; bytes = text }) left same (size_again told number more size))
+      (told.again number small others each met begin at same more size))
 
-pub at_most_moves : (form : ℕ → Form) → Moves Anything form → (k : ℕ) → Moves Nothing (λ start. at_most k (form start))
-at_most_moves form law zero = value_moves Nothing
-at_most_moves form law (suc k) =
-    by_size_moves (λ size start found left. cond (size == 0) (value found left) (both form (λ start. at_most k (form start)) start
-    found left))
-    (λ size. if_moves (size == 0) (λ _ found. value found) (both form (λ start. at_most k (form start))) (value_moves Nothing)
-    (both_moves Nothing form (λ start. at_most k (form start)) law (at_most_moves form law k)))
+by_size_moves : (reader : ℕ → Reader) → ((n : ℕ) → Moves (reader n))
+    → Moves (λ texts start found left. reader (length left.bytes) texts start found left)
+by_size_moves = by_key_moves (λ start left. length left.bytes) (λ begin start now left same size. size)
 
-pub run_moves : (form : ℕ → Form) → Moves Anything form → Moves Nothing (λ start. run (form start))
-run_moves form law = by_size_moves (λ size start. at_most size (form start)) (at_most_moves form law)
+if_moves : (test : Bool) (one two : Reader) → Moves one → Moves two
+    → Moves (λ texts start found left. cond test (one texts start found left) (two texts start found left))
+if_moves true one two first second = first
+if_moves false one two first second = second
+
+module _ (item : ℕ → Form) (law : (n : ℕ) → Moves (of (item n))) where
+  abbrev item_reader : Reader
+  item_reader texts start found now = reads texts (item (now.place - start)) found now
+
+  abbrev items_reader : ℕ → Reader
+  items_reader n texts start = at_most n (item_reader texts start)
+
+  item_moves : Moves item_reader
+  item_moves = by_key_moves (λ start left. left.place - start) (λ begin start now left same size. omega (arith, same))
+      (λ n. of (item n)) law
+
+  items_moves : (n : ℕ) → Moves (items_reader n)
+  items_moves zero = finished_moves
+  items_moves (suc n) =
+      by_size_moves (λ size texts start found left. cond (size == 0) (value found left)
+      (both item_reader (items_reader n) texts start found left))
+      (λ size. if_moves (size == 0) finished (both item_reader (items_reader n)) finished_moves
+      (both_move item_reader (items_reader n) item_moves (items_moves n)))
+
+  -- the items are told by the place where the run begins
+  run_moves : Moves (of (Run item))
+  run_moves texts start found left new next bytes e =
+      let told = by_size_moves items_reader items_moves texts left.place found left new next bytes e in
+      taken_as told (λ number small others each met begin at same more size.
+      told.again number small others each met at at refl more size)
+
+-- All forms
+
+form_moves : (form : Form) → Moves (of form)
+form_moves Nothing = finished_moves
+form_moves Never = never_moves
+form_moves (Skip n) = skip_moves n
+form_moves Rest = by_size_moves (λ n. of (Skip n)) skip_moves
+form_moves (Site wide optional) = by_site_moves wide optional (λ _. finished) (λ _. finished_moves)
+form_moves (Named next) = by_site_moves true false (by_text next) (by_text_moves next (λ text. form_moves (next text)))
+form_moves (Then first next) = both_move (of first) (of next) (form_moves first) (form_moves next)
+form_moves (form.Told kind next) = by_number_moves (width kind) (λ n. of (next n)) (λ n. form_moves (next n))
+form_moves (Sized inner) = by_number_moves w32 (whole_of inner) (whole_moves inner (form_moves inner))
+form_moves (Run item) = run_moves item (λ n. form_moves (item n))
+
+pub form-tells : (texts : Texts) (form : Form) (found : List FoundSite) (left : Left) (new : List FoundSite) (next : Left)
+    → IsBytes left.bytes → reads texts form found left ≡ Ok (new, next) → Tells texts form found left new next
+form-tells texts form found left new next bytes e =
+    let told = form_moves form texts left.place found left new next bytes e in
+    taken_as told (λ number small others each met place. told.again number small others each met place place refl)

@@ -1,17 +1,19 @@
 -- The slots that are kept, and the pool that they make.
-use Rattle.std.proofs.Common.{◌≡◌, ℕ, zero, suc, ◌+◌, ◌-◌, ◌<◌, ◌≤◌, Bool, true, false, cond, ◌&&◌, List, []}
-use Rattle.std.proofs.Common.{◌∷◌, get_or, length, map, Some, None, option_map, option_and_then, slice_get}
-use Rattle.std.proofs.Common.{refl, sym, ap, ◌∙◌, subst₂, arith}
-use Rattle.std.proofs.lemmas.Bool.{eqb-true, eqb-false, ne_eqb}
+use Rattle.std.proofs.Common.{◌≡◌, ℕ, zero, suc, ◌+◌, ◌-◌, ◌^◌, ◌<◌, ◌≤◌, Bool, true, false, ◌&&◌, List, []}
+use Rattle.std.proofs.Common.{◌∷◌, cond, filter, get_or, length, map, Some, option_map, option_and_then, slice_get}
+use Rattle.std.proofs.Common.{refl, sym, ap, ◌∙◌, arith, Contains, ◌⊎◌, inl, inr, is_some}
+use Rattle.std.proofs.lemmas.Bool.{eqb-true, or_right}
 use Rattle.std.proofs.lemmas.List.{length-map}
 use Rattle.std.proofs.lemmas.Option.{slice_get-get_or, slice_get-map, slice_get_within}
+use Rattle.std.specs.List.{list_all}
 use Rattle.std.specs.Prelude.{nat_eq, slice_index_or}
-use Rattle.jm_class.specs.Classes.{SlotData, Constant, Hole, IsPoolFrom, FitsTag, is_wide, slot_at, utf8_of, utf8_at}
+use Rattle.jm_class.specs.Classes.{SlotData, Constant, Hole, IsPoolFrom, is_wide, slot_at, utf8_of, utf8_at}
+use Rattle.jm_poolmap.specs.declared.site.FoundSite.{FoundSite}
 use Rattle.jm_poolmap.specs.Live.{first_number, number_of}
-use Rattle.jm_poolmap.specs.Sites.{rank_of, rank_at}
-use Rattle.jm_poolmap.proofs.ComputedLiveLaws.{no_hole}
+use Rattle.jm_poolmap.specs.Sites.{named_by, rank_of, rank_at, names_lower, names_constant}
+use Rattle.jm_poolmap.proofs.ComputedLiveLaws.{slot_of_number, slot_at-place, no_hole}
 use Rattle.jm_compact.specs.Compact.{kept_before, new_number, renamed, kept, compact_pool}
-use Rattle.jm_compact.proofs.NewNumbers.{kept_before-more, new_number-at, new_number-some}
+use Rattle.jm_compact.proofs.NewNumbers.{kept_before-next, new_number-at, new_number-some}
 use Rattle.jm_compact.proofs.Shapes.{fits_renumbered, renamed_utf8}
 
 -- Slots and numbers
@@ -22,24 +24,6 @@ pub record IsKept (pool : List SlotData) (flags : List Bool) (i : ℕ) : Type 0 
   pub body : List ℕ
   pub is : slot_at pool i ≡ Some (Constant tag body)
   pub up : slice_index_or flags (i - 1) false ≡ true
-
--- a number above 0 is that of a slot
-pub slot_of_number : (pool : List SlotData) (i : ℕ) (slot : SlotData) → slot_at pool i ≡ Some slot → (0 < i)
-    × (slice_get pool (i - 1) ≡ Some slot)
-slot_of_number pool i slot is = go (nat_eq i 0) refl is
-  where
-    go : (b : Bool) → nat_eq i 0 ≡ b → cond b None (slice_get pool (i - 1)) ≡ Some slot → (0 < i) × (slice_get pool (i - 1) ≡ Some slot)
-    go true e is = cc
-    go false e is = (some, is)
-      where
-        some : 0 < i
-        some = let differs = eqb-false i 0 e in omega (arith, differs)
-
-pub slot_at-place : (pool : List SlotData) (place : ℕ) → slot_at pool (place + 1) ≡ slice_get pool place
-slot_at-place pool place =
-    let back : (place + 1) - 1 ≡ place = omega arith in
-    let test : nat_eq (place + 1) 0 ≡ false = ne_eqb (place + 1) 0 (λ e. omega (arith, e)) in
-    rw (test, back) refl
 
 -- the slot of a number is within the pool
 pub number_within : (pool : List SlotData) (i : ℕ) (slot : SlotData) → slot_at pool i ≡ Some slot → (0 < i) × (i ≤ length pool)
@@ -53,10 +37,18 @@ number_within pool i slot is =
 
 -- a hole has the flag of the slot before it
 abbrev pub HolesFollow : Bool → List SlotData → List Bool → Type 0
-HolesFollow before [] flags = Unit {0}
-HolesFollow before (slot ∷ pool) [] = ⊥
-HolesFollow before (Hole ∷ pool) (flag ∷ flags) = (flag ≡ before) × HolesFollow flag pool flags
-HolesFollow before (Constant tag body ∷ pool) (flag ∷ flags) = HolesFollow flag pool flags
+HolesFollow before pool flags = (place : ℕ) → slice_get pool place ≡ Some Hole → get_or flags place false
+    ≡ get_or (before ∷ flags) place false
+
+-- flags that keep each hole with its constant, and with a constant all that it names
+pub record IsClosed (slots : List SlotData) (flags : List Bool) : Type 0 where
+  pub pool : IsPoolFrom false slots
+  pub few : length slots < 2 ^ 16
+  pub lower : list_all (names_lower slots) slots ≡ true
+  pub size : length flags ≡ length slots
+  pub holes : HolesFollow false slots flags
+  pub names : (i : ℕ) (kept_i : IsKept slots flags i) (k : ℕ) → Contains (named_by (Constant kept_i.tag kept_i.body)) k
+      → IsKept slots flags k
 
 -- Items that are kept
 
@@ -88,11 +80,14 @@ kept_from (false ∷ flags) (x ∷ items) place item is =
     let rest = kept_from flags items place item is in
     record { from = suc rest.from; is = rest.is; up = rest.up; before = rest.before }
 
-pub length-kept : {A : Type 0} (flags : List Bool) (items : List A) → length (kept flags items) ≤ length items
-length-kept [] items = omega arith
-length-kept (flag ∷ flags) [] = omega arith
-length-kept (true ∷ flags) (x ∷ items) = let rest = length-kept flags items in omega (arith, rest)
-length-kept (false ∷ flags) (x ∷ items) = let rest = length-kept flags items in omega (arith, rest)
+-- as many are kept as flags are up
+length-kept : {A : Type 0} (flags : List Bool) (items : List A) → length flags ≡ length items → length (kept flags items)
+    ≡ length (filter (λ flag. flag) flags)
+length-kept [] [] size = refl
+length-kept [] (x ∷ items) size = absurd (omega (arith, size))
+length-kept (flag ∷ flags) [] size = absurd (omega (arith, size))
+length-kept (true ∷ flags) (x ∷ items) size = ap suc (length-kept flags items (omega (arith, size)))
+length-kept (false ∷ flags) (x ∷ items) size = length-kept flags items (omega (arith, size))
 
 -- all are kept
 pub kept_all : {A : Type 0} (flags : List Bool) (items : List A) → length flags ≡ length items → ((place : ℕ) → place < length flags
@@ -106,50 +101,37 @@ kept_all (false ∷ flags) (x ∷ items) size all = let first : ◌≡◌ {A = B
 
 -- The pool of kept slots
 
-pub length-compact : (flags : List Bool) (pool : List SlotData) → length (compact_pool flags pool) ≤ length pool
-length-compact flags pool =
-    let same = length-map (kept flags pool) (renamed (new_number flags)) in
-    let less = length-kept flags pool in
-    omega (arith, same, less)
+pub length-compact : (flags : List Bool) (pool : List SlotData) → length flags ≡ length pool → length (compact_pool flags pool)
+    ≡ length (filter (λ flag. flag) flags)
+length-compact flags pool size = length-map (kept flags pool) (renamed (new_number flags)) ∙ length-kept flags pool size
 
 -- it is a pool, whatever the new numbers are
-pub pool_kept : (new : ℕ → ℕ) (due before : Bool) (flags : List Bool) (pool : List SlotData) → IsPoolFrom due pool
-    → HolesFollow before pool flags → IsPoolFrom (before && due) (map (renamed new) (kept flags pool))
-pool_kept new due true [] [] is follow = is
-pool_kept new due false [] [] is follow = refl
-pool_kept new due true (flag ∷ flags) [] is follow = is
-pool_kept new due false (flag ∷ flags) [] is follow = refl
-pool_kept new due before [] (slot ∷ pool) is follow = absurd follow
-pool_kept new true before (flag ∷ flags) (Constant tag body ∷ pool) is follow = absurd is
-pool_kept new false before (flag ∷ flags) (Hole ∷ pool) is follow = absurd is
-pool_kept new true true (true ∷ flags) (Hole ∷ pool) is follow = pool_kept new false true flags pool is follow.1
-pool_kept new true true (false ∷ flags) (Hole ∷ pool) is follow = let e = follow.0 in cc
-pool_kept new true false (true ∷ flags) (Hole ∷ pool) is follow = let e = follow.0 in cc
-pool_kept new true false (false ∷ flags) (Hole ∷ pool) is follow = pool_kept new false false flags pool is follow.1
-pool_kept new false true (true ∷ flags) (Constant tag body ∷ pool) is follow =
-    (fits_renumbered new tag body is.0, pool_kept new (is_wide tag) true flags pool is.1 follow)
-pool_kept new false false (true ∷ flags) (Constant tag body ∷ pool) is follow =
-    (fits_renumbered new tag body is.0, pool_kept new (is_wide tag) true flags pool is.1 follow)
-pool_kept new false true (false ∷ flags) (Constant tag body ∷ pool) is follow = pool_kept new (is_wide tag) false flags pool is.1 follow
-pool_kept new false false (false ∷ flags) (Constant tag body ∷ pool) is follow = pool_kept new (is_wide tag) false flags pool is.1 follow
-
-pub kept_pool : (flags : List Bool) (pool : List SlotData) → IsPoolFrom false pool → HolesFollow false pool flags
-    → IsPoolFrom false (compact_pool flags pool)
-kept_pool flags pool is follow = pool_kept (new_number flags) false false flags pool is follow
-
--- each constant of a pool fits its tag
-pub fits_at : (due : Bool) (pool : List SlotData) → IsPoolFrom due pool → (place tag : ℕ) (body : List ℕ) → slice_get pool place
-    ≡ Some (Constant tag body) → FitsTag tag body
-fits_at due [] is place tag body there = cc
-fits_at true (Constant t b ∷ pool) is place tag body there = absurd is
-fits_at false (Hole ∷ pool) is place tag body there = absurd is
-fits_at true (Hole ∷ pool) is zero tag body there = cc
-fits_at true (Hole ∷ pool) is (suc place) tag body there = fits_at false pool is place tag body there
-fits_at false (Constant t b ∷ pool) is zero tag body there =
-    let same_tag : t ≡ tag = cc in
-    let same_body : b ≡ body = cc in
-    subst₂ FitsTag same_tag same_body is.0
-fits_at false (Constant t b ∷ pool) is (suc place) tag body there = fits_at (is_wide t) pool is.1 place tag body there
+pool_kept : (new : ℕ → ℕ) (due before : Bool) (flags : List Bool) (pool : List SlotData) → length flags ≡ length pool
+    → IsPoolFrom due pool → HolesFollow before pool flags → IsPoolFrom (before && due) (map (renamed new) (kept flags pool))
+pool_kept new due before [] (slot ∷ pool) size is follow = absurd (omega (arith, size))
+pool_kept new due before (flag ∷ flags) [] size is follow = absurd (omega (arith, size))
+pool_kept new true before (flag ∷ flags) (Constant tag body ∷ pool) size is follow = absurd is
+pool_kept new false before (flag ∷ flags) (Hole ∷ pool) size is follow = absurd is
+pool_kept new due true [] [] size is follow = is
+pool_kept new due false [] [] size is follow = refl
+pool_kept new true before (flag ∷ flags) (Hole ∷ pool) size is follow = go flag before (follow 0 refl)
+    (pool_kept new false flag flags pool (omega (arith, size)) is (λ place. follow (suc place)))
+  where
+    go : (flag before : Bool) → flag ≡ before → IsPoolFrom (flag && false) (map (renamed new) (kept flags pool))
+        → IsPoolFrom (before && true) (map (renamed new) (kept (flag ∷ flags) (Hole ∷ pool)))
+    go true true same rest = rest
+    go false false same rest = rest
+    go true false same rest = cc
+    go false true same rest = cc
+pool_kept new false before (flag ∷ flags) (Constant tag body ∷ pool) size is follow = go flag before
+    (pool_kept new (is_wide tag) flag flags pool (omega (arith, size)) is.1 (λ place. follow (suc place)))
+  where
+    go : (flag before : Bool) → IsPoolFrom (flag && is_wide tag) (map (renamed new) (kept flags pool))
+        → IsPoolFrom (before && false) (map (renamed new) (kept (flag ∷ flags) (Constant tag body ∷ pool)))
+    go true true rest = (fits_renumbered new tag body is.0, rest)
+    go true false rest = (fits_renumbered new tag body is.0, rest)
+    go false true rest = rest
+    go false false rest = rest
 
 -- a constant stands before a hole
 pub before_hole : (due : Bool) (pool : List SlotData) → IsPoolFrom due pool → (place : ℕ) → slice_get pool (suc place) ≡ Some Hole
@@ -164,32 +146,12 @@ before_hole true (Hole ∷ Hole ∷ pool) is zero there = absurd is
 before_hole true (Hole ∷ Constant t b ∷ pool) is zero there = cc
 before_hole true (Hole ∷ pool) is (suc place) there = before_hole false pool is place there
 
--- the flag of a hole
-pub hole_flag : (before : Bool) (pool : List SlotData) (flags : List Bool) → HolesFollow before pool flags → (place : ℕ)
-    → slice_get pool place ≡ Some Hole → get_or flags place false ≡ get_or (before ∷ flags) place false
-hole_flag before [] flags follow place there = cc
-hole_flag before (slot ∷ pool) [] follow place there = absurd follow
-hole_flag before (Hole ∷ pool) (flag ∷ flags) follow zero there = follow.0
-hole_flag before (Constant tag body ∷ pool) (flag ∷ flags) follow zero there = cc
-hole_flag before (Hole ∷ pool) (flag ∷ flags) follow (suc place) there = hole_flag flag pool flags follow.1 place there
-hole_flag before (Constant tag body ∷ pool) (flag ∷ flags) follow (suc place) there = hole_flag flag pool flags follow place there
-
-pub flags_follow : (before : Bool) (pool : List SlotData) (flags : List Bool) → length flags ≡ length pool
-    → ((place : ℕ) → slice_get pool place ≡ Some Hole → get_or flags place false ≡ get_or (before ∷ flags) place false)
-    → HolesFollow before pool flags
-flags_follow before [] flags size each = tt
-flags_follow before (slot ∷ pool) [] size each = absurd (omega (arith, size))
-flags_follow before (Hole ∷ pool) (flag ∷ flags) size each = (
-  each 0 refl,
-  flags_follow flag pool flags (omega (arith, size))
-      (λ place there. each (suc place) there),
-)
-flags_follow before (Constant tag body ∷ pool) (flag ∷ flags) size each = flags_follow flag pool flags (omega (arith, size))
-    (λ place there. each (suc place) there)
-
 -- Constants in it
 
 module _ (pool : List SlotData) (flags : List Bool) where
+  pub kept_pool : IsClosed pool flags → IsPoolFrom false (compact_pool flags pool)
+  kept_pool closed = pool_kept (new_number flags) false false flags pool closed.size closed.pool closed.holes
+
   pub kept_slot : (i : ℕ) (kept_i : IsKept pool flags i) → slot_at (compact_pool flags pool) (new_number flags i)
       ≡ Some (renamed (new_number flags) (Constant kept_i.tag kept_i.body))
   kept_slot i kept_i =
@@ -202,6 +164,18 @@ module _ (pool : List SlotData) (flags : List Bool) where
 
   pub kept_rank : (i : ℕ) → IsKept pool flags i → rank_at (compact_pool flags pool) (new_number flags i) ≡ rank_at pool i
   kept_rank i kept_i = ap (option_and_then rank_of) (kept_slot i kept_i) ∙ sym (ap (option_and_then rank_of) kept_i.is)
+
+  -- a site with the new number passes its check
+  pub site_again : (f g : FoundSite) → names_constant pool f ≡ true → (f.number ≡ 0) ⊎ IsKept pool flags f.number
+      → g.optional ≡ f.optional → g.number ≡ new_number flags f.number → names_constant (compact_pool flags pool) g ≡ true
+  site_again f g checked (inl none) optional number =
+      let zero_new : g.number ≡ 0 = number ∙ ap (new_number flags) none in
+      let same : names_constant (compact_pool flags pool) g ≡ names_constant pool f = rw (optional, zero_new, none) refl in
+      same ∙ checked
+  site_again f g checked (inr kept_f) optional number =
+      or_right (g.optional && nat_eq g.number 0) (is_some (rank_at (compact_pool flags pool) g.number))
+      (ap (λ n. is_some (rank_at (compact_pool flags pool) n)) number ∙ ap is_some (kept_rank f.number kept_f)
+      ∙ ap (λ o. is_some (option_and_then rank_of o)) kept_f.is)
 
   pub kept_utf8 : (i : ℕ) → IsKept pool flags i → utf8_at (compact_pool flags pool) (new_number flags i) ≡ utf8_at pool i
   kept_utf8 i kept_i =
@@ -224,10 +198,10 @@ module _ (pool : List SlotData) (flags : List Bool) where
       let back : (place + 1) - 1 ≡ place = omega arith in
       record { tag = tag; body = body; is = slot_at-place pool place ∙ is; up = ap (λ p. slice_index_or flags p false) back ∙ up }
 
-  -- each slot of the new pool is that of a kept constant, or the hole behind one
-  pub kept_place : IsPoolFrom false pool → HolesFollow false pool flags → (place : ℕ) → place < length (compact_pool flags pool)
+  -- each slot of the new pool is that of a kept constant, or the hole after one
+  pub kept_place : IsClosed pool flags → (place : ℕ) → place < length (compact_pool flags pool)
       → (i : ℕ) × IsKept pool flags i × (number_of (compact_pool flags pool) place ≡ new_number flags i)
-  kept_place is follow place below = go (get_or (kept flags pool) place Hole) (slice_get-get_or (kept flags pool) place Hole
+  kept_place closed place below = go (get_or (kept flags pool) place Hole) (slice_get-get_or (kept flags pool) place Hole
       (let same = length-map (kept flags pool) (renamed (new_number flags)) in omega (arith, below, same)))
     where
       -- the slot in the new pool
@@ -238,13 +212,13 @@ module _ (pool : List SlotData) (flags : List Bool) where
 
       of_hole : slice_get (kept flags pool) place ≡ Some Hole → (n : ℕ) → slice_get pool n ≡ Some Hole → get_or flags n false ≡ true
           → kept_before flags n ≡ place → (i : ℕ) × IsKept pool flags i × (number_of (compact_pool flags pool) place ≡ new_number flags i)
-      of_hole there zero is_hole up before = absurd (no_hole pool is is_hole)
+      of_hole there zero is_hole up before = absurd (no_hole pool closed.pool is_hole)
       of_hole there (suc n) is_hole up before =
-          let one = before_hole false pool is n is_hole in
-          let up_before = sym (hole_flag false pool flags follow (suc n) is_hole) ∙ up in
+          let one = before_hole false pool closed.pool n is_hole in
+          let up_before = sym (closed.holes (suc n) is_hole) ∙ up in
           let number = ap (λ o. first_number o place) (slot_there Hole there) in
           let new = new_number-at flags n in
-          let more = kept_before-more flags n up_before in
+          let more = kept_before-next flags n ∙ ap (λ b. kept_before flags n + cond b 1 0) up_before in
           (n + 1, kept_here n one.0 one.1 one.2 up_before, omega (arith, number, new, more, before))
 
       go : (slot : SlotData) → slice_get (kept flags pool) place ≡ Some slot → (i : ℕ) × IsKept pool flags i

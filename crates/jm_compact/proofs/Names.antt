@@ -4,43 +4,31 @@ use Rattle.std.proofs.Common.{cond, ◌&&◌, ◌||◌, List, [], ◌∷◌, ◌
 use Rattle.std.proofs.Common.{Contains, is_some, option_and_then, slice_get, refl, sym, ap, ap₂, ◌∙◌, subst}
 use Rattle.std.proofs.Common.{arith}
 use Rattle.std.proofs.lemmas.Bool.{eqb-true}
-use Rattle.std.proofs.lemmas.Option.{slice_get_within}
+use Rattle.std.proofs.lemmas.List.Sums.{list_all-from_AllPass}
+use Rattle.std.proofs.lemmas.Option.{slice_get_within, slice_get-get_or}
 use Rattle.std.specs.Bool.{one_answer}
 use Rattle.std.specs.List.{list_all}
 use Rattle.std.specs.Prelude.{nat_eq}
 use Rattle.jm_bytes.proofs.Choice.{same_some}
-use Rattle.jm_bytes.proofs.Members.{contains_none, contains_here, contains_later, contains_cases, contains_map, from_map}
-use Rattle.jm_class.specs.Classes.{SlotData, Constant, Hole, ClassData, IsPoolFrom, slot_at}
+use Rattle.jm_bytes.proofs.Members.{contains_none, contains_map, all_from_contains}
+use Rattle.jm_class.specs.Classes.{SlotData, Constant, Hole, ClassData, IsPoolFrom, IsClass, slot_at}
 use Rattle.jm_poolmap.specs.declared.site.FoundSite.{FoundSite}
 use Rattle.jm_poolmap.specs.declared.site.Site.{Site}
-use Rattle.jm_poolmap.specs.Live.{Leads, IsLive, first_number, number_of, TellsLive}
-use Rattle.jm_poolmap.specs.Sites.{rank, named_by, rank_of, rank_at, is_some_below, names_lower}
+use Rattle.jm_poolmap.specs.Live.{Leads, StandsAtSite, IsLive, first_number, number_of, TellsLive}
+use Rattle.jm_poolmap.specs.Sites.{rank, named_by, rank_of, rank_at, names_lower}
 use Rattle.jm_poolmap.specs.Sites.{names_constant, judged, site_of, found_in, sites_of}
-use Rattle.jm_poolmap.proofs.ComputedLiveLaws.{leads_on, all_at, below_found, no_hole}
-use Rattle.jm_compact.proofs.KeptSlots.{IsKept, HolesFollow, slot_of_number, number_within, before_hole, flags_follow}
+use Rattle.jm_poolmap.proofs.ComputedLiveLaws.{leads_on, all_at, slot_of_number, lower_at, no_hole}
+use Rattle.jm_compact.proofs.KeptSlots.{IsKept, HolesFollow, IsClosed, number_within, before_hole}
 use Rattle.jm_compact.proofs.NewNumbers.{place_of}
 use Rattle.jm_compact.proofs.Shapes.{AllFitTwo}
 
 -- Checks of all
 
 pub all_from : {A : Type 0} (test : A → Bool) (xs : List A) → ((x : A) → Contains xs x → test x ≡ true) → list_all test xs ≡ true
-all_from test [] each = refl
-all_from test (x ∷ xs) each = rw (each x (contains_here x xs)) (all_from test xs (λ y there. each y (contains_later x xs y there)))
-
-pub slot_contained : {A : Type 0} (items : List A) (place : ℕ) (item : A) → slice_get items place ≡ Some item → Contains items item
-slot_contained [] place item is = cc
-slot_contained (first ∷ items) zero item is =
-    let same : first ≡ item = cc in subst (Contains (first ∷ items)) same (contains_here first items)
-slot_contained (first ∷ items) (suc place) item is = contains_later first items item (slot_contained items place item is)
+all_from test xs each = list_all-from_AllPass test xs (all_from_contains (λ x. test x ≡ true) xs each)
 
 pub contained_slot : {A : Type 0} (items : List A) (item : A) → Contains items item → (place : ℕ) × (slice_get items place ≡ Some item)
-contained_slot [] item there = absurd (contains_none item there)
-contained_slot (first ∷ items) item there = go (contains_cases first items item there) (λ later. contained_slot items item later)
-  where
-    go : (first ≡ item) ⊎ Contains items item → (Contains items item → (place : ℕ) × (slice_get items place ≡ Some item))
-        → (place : ℕ) × (slice_get (first ∷ items) place ≡ Some item)
-    go (inl same) rest = (0, ap (λ x. Some x) same)
-    go (inr later) rest = let found = rest later in (suc found.0, found.1)
+contained_slot items item (place, below, is) = (place, slice_get-get_or items place item below ∙ ap Some is)
 
 -- Sites
 
@@ -77,7 +65,7 @@ pub judged_back : (c : ClassData) (found : List FoundSite) → found_in c ≡ So
 judged_back c found is constants lower = rw (is, constants, lower) refl
 
 -- a number at a site
-pub site_names : (pool : List SlotData) (found : FoundSite) → names_constant pool found ≡ true → (found.number ≡ 0)
+site_names : (pool : List SlotData) (found : FoundSite) → names_constant pool found ≡ true → (found.number ≡ 0)
     ⊎ (is_some (rank_at pool found.number) ≡ true)
 site_names pool found e = go found.optional (nat_eq found.number 0) refl e
   where
@@ -90,7 +78,7 @@ site_names pool found e = go found.optional (nat_eq found.number 0) refl e
 -- Constants
 
 -- a number with a rank is that of a constant
-pub ranked_slot : (pool : List SlotData) (i : ℕ) → is_some (rank_at pool i) ≡ true → (tag : ℕ) × (body : List ℕ)
+ranked_slot : (pool : List SlotData) (i : ℕ) → is_some (rank_at pool i) ≡ true → (tag : ℕ) × (body : List ℕ)
     × (slot_at pool i ≡ Some (Constant tag body))
 ranked_slot pool i is = go (slot_at pool i) refl is
   where
@@ -101,25 +89,18 @@ ranked_slot pool i is = go (slot_at pool i) refl is
     go (Some (Constant tag body)) e is = (tag, body, e)
 
 module _ (pool : List SlotData) (lower : list_all (names_lower pool) pool ≡ true) where
-  -- what a constant names is a constant of a lower rank
-  pub named_lower : (i tag : ℕ) (body : List ℕ) (k : ℕ) → slot_at pool i ≡ Some (Constant tag body)
-      → Contains (named_by (Constant tag body)) k → (r : ℕ) × (rank_at pool k ≡ Some r) × (r < rank tag)
-  named_lower i tag body k is there =
+  -- what a constant names is a constant
+  named_ranked : (i tag : ℕ) (body : List ℕ) (k : ℕ) → slot_at pool i ≡ Some (Constant tag body)
+      → Contains (named_by (Constant tag body)) k → is_some (rank_at pool k) ≡ true
+  named_ranked i tag body k is there =
       let slot = slot_of_number pool i (Constant tag body) is in
-      let all = all_at (names_lower pool) pool (Constant tag body) (slot_contained pool (i - 1) (Constant tag body) slot.1) lower in
-      below_found (rank tag) (rank_at pool k) (all_at (λ index. is_some_below (rank tag) (rank_at pool index))
-      (named_by (Constant tag body)) k there all)
-
-  pub named_ranked : (i : ℕ) (slot : SlotData) (k : ℕ) → slot_at pool i ≡ Some slot → Contains (named_by slot) k
-      → is_some (rank_at pool k) ≡ true
-  named_ranked i Hole k is there = absurd (contains_none k there)
-  named_ranked i (Constant tag body) k is there = ap is_some (named_lower i tag body k is there).1
+      ap is_some (lower_at pool lower (i - 1) (Constant tag body) (rank tag) k slot.1 refl there).1
 
   -- the numbers that a constant names are those of slots
-  pub named_within : (i tag : ℕ) (body : List ℕ) (k : ℕ) → slot_at pool i ≡ Some (Constant tag body)
+  named_within : (i tag : ℕ) (body : List ℕ) (k : ℕ) → slot_at pool i ≡ Some (Constant tag body)
       → Contains (named_by (Constant tag body)) k → (0 < k) × (k ≤ length pool)
   named_within i tag body k is there =
-      let slot = ranked_slot pool k (named_ranked i (Constant tag body) k is there) in
+      let slot = ranked_slot pool k (named_ranked i tag body k is there) in
       number_within pool k (Constant slot.0 slot.1) slot.2
 
   -- their new numbers fit into two bytes
@@ -129,15 +110,6 @@ module _ (pool : List SlotData) (lower : list_all (names_lower pool) pool ≡ tr
       let within = (named_within i tag body k is there).1 in
       let less = small k in
       omega (arith, within, less, size)
-
-  -- who is led to is a constant, or the one that leads
-  pub led_ranked : (i : ℕ) (between : List ℕ) (j : ℕ) → Leads pool i between j → (i ≡ j) ⊎ (is_some (rank_at pool j) ≡ true)
-  led_ranked i [] j leads = inl leads
-  led_ranked i (k ∷ between) j (names, leads) = go (led_ranked k between j leads)
-    where
-      go : (k ≡ j) ⊎ (is_some (rank_at pool j) ≡ true) → (i ≡ j) ⊎ (is_some (rank_at pool j) ≡ true)
-      go (inl same) = inr (subst (λ n. is_some (rank_at pool n) ≡ true) same (named_ranked i names.0 k names.1 names.2))
-      go (inr is) = inr is
 
 -- Live constants
 
@@ -158,7 +130,7 @@ told_once c one other tells also =
     one_answer (get_or one place false) (get_or other place false) (tells.exactly place inside) (also.exactly place inside))
 
 module _ (c : ClassData) (sites : List Site) (flags : List Bool) (is_sites : sites_of c ≡ Some sites) (tells : TellsLive c flags) where
-  abbrev judged_is : Judged c sites
+  abbrev pub judged_is : Judged c sites
   judged_is = judged_parts c sites is_sites
 
   number_of_constant : (i tag : ℕ) (body : List ℕ) → slot_at c.pool i ≡ Some (Constant tag body) → (i - 1 < length c.pool)
@@ -172,39 +144,25 @@ module _ (c : ClassData) (sites : List Site) (flags : List Bool) (is_sites : sit
       let number = number_of_constant i kept_i.tag kept_i.body kept_i.is in
       subst (IsLive c) number.1 ((tells.exactly (i - 1) number.0).0 kept_i.up)
 
-  live_ranked : (i : ℕ) → IsLive c i → (i ≡ 0) ⊎ (is_some (rank_at c.pool i) ≡ true)
-  live_ranked i (start, between, (found, is, there), leads) = led (led_ranked c.pool judged_is.lower start between i leads)
-    where
-      at_site : (start ≡ 0) ⊎ (is_some (rank_at c.pool start) ≡ true)
-      at_site =
-          let same = same_some found judged_is.found (sym is ∙ judged_is.is) in
-          let from = from_map (λ f. f.number) found start there in
-          let checked = all_at (names_constant c.pool) found from.0 from.1 (subst (λ fs. list_all (names_constant c.pool) fs ≡ true)
-          (sym same) judged_is.constants) in
-          subst (λ n. (n ≡ 0) ⊎ (is_some (rank_at c.pool n) ≡ true)) from.2 (site_names c.pool from.0 checked)
-
-      led : (start ≡ i) ⊎ (is_some (rank_at c.pool i) ≡ true) → (i ≡ 0) ⊎ (is_some (rank_at c.pool i) ≡ true)
-      led (inl same) = subst (λ n. (n ≡ 0) ⊎ (is_some (rank_at c.pool n) ≡ true)) same at_site
-      led (inr ranked) = inr ranked
-
   -- a constant that is live is kept
-  pub ranked_kept : (i : ℕ) → IsLive c i → is_some (rank_at c.pool i) ≡ true → IsKept c.pool flags i
+  ranked_kept : (i : ℕ) → IsLive c i → is_some (rank_at c.pool i) ≡ true → IsKept c.pool flags i
   ranked_kept i live ranked =
       let slot = ranked_slot c.pool i ranked in
       let number = number_of_constant i slot.0 slot.1 slot.2 in
       record { tag = slot.0; body = slot.1; is = slot.2; up = (tells.exactly (i - 1) number.0).1 (subst (IsLive c) (sym number.1) live) }
 
-  pub live_kept : (i : ℕ) → IsLive c i → (i ≡ 0) ⊎ IsKept c.pool flags i
-  live_kept i live = go (live_ranked i live)
-    where
-      go : (i ≡ 0) ⊎ (is_some (rank_at c.pool i) ≡ true) → (i ≡ 0) ⊎ IsKept c.pool flags i
-      go (inl none) = inl none
-      go (inr ranked) = inr (ranked_kept i live ranked)
+  -- who leads to a kept constant from a site is kept
+  pub start_kept : (start : ℕ) (between : List ℕ) (i : ℕ) → StandsAtSite c start → IsKept c.pool flags i → Leads c.pool start between i
+      → IsKept c.pool flags start
+  start_kept start [] i stands kept_i leads = subst (IsKept c.pool flags) (sym leads) kept_i
+  start_kept start (k ∷ between) i stands kept_i ((Hole, is, there), leads) = absurd (contains_none k there)
+  start_kept start (k ∷ between) i stands kept_i ((Constant tag body, is, there), leads) =
+      ranked_kept start (start, [], stands, refl) (ap (λ o. is_some (option_and_then rank_of o)) is)
 
   -- what a kept constant names is kept
   pub names_kept : (i : ℕ) (kept_i : IsKept c.pool flags i) (k : ℕ) → Contains (named_by (Constant kept_i.tag kept_i.body)) k
       → IsKept c.pool flags k
-  names_kept i kept_i k there = ranked_kept k live (named_ranked c.pool judged_is.lower i (Constant kept_i.tag kept_i.body) k
+  names_kept i kept_i k there = ranked_kept k live (named_ranked c.pool judged_is.lower i kept_i.tag kept_i.body k
       kept_i.is there)
     where
       on : IsLive c i → IsLive c k
@@ -220,27 +178,38 @@ module _ (c : ClassData) (sites : List Site) (flags : List Bool) (is_sites : sit
       live = on (kept_live i kept_i)
 
   -- a hole has the flag of its constant
-  pub holes_follow : IsPoolFrom false c.pool → HolesFollow false c.pool flags
-  holes_follow is = flags_follow false c.pool flags tells.size at_place
-    where
-      at_place : (place : ℕ) → slice_get c.pool place ≡ Some Hole → get_or flags place false ≡ get_or (false ∷ flags) place false
-      at_place zero there = absurd (no_hole c.pool is there)
-      at_place (suc place) there =
-          let before = before_hole false c.pool is place there in
-          let within = slice_get_within c.pool (suc place) Hole there in
-          let hole = tells.exactly (suc place) within in
-          let constant = tells.exactly place (omega (arith, within)) in
-          let same : number_of c.pool (suc place) ≡ number_of c.pool place =
-          ap (λ o. first_number o (suc place)) there ∙ (let more : suc place ≡ place + 1 = omega arith in more)
-          ∙ sym (ap (λ o. first_number o place) before.2) in
-          one_answer (get_or flags (suc place) false) (get_or flags place false) hole
-          ((λ up. subst (IsLive c) (sym same) (constant.0 up)), (λ live. constant.1 (subst (IsLive c) same live)))
+  holes_follow : IsPoolFrom false c.pool → HolesFollow false c.pool flags
+  holes_follow is zero there = absurd (no_hole c.pool is there)
+  holes_follow is (suc place) there =
+      let before = before_hole false c.pool is place there in
+      let within = slice_get_within c.pool (suc place) Hole there in
+      let hole = tells.exactly (suc place) within in
+      let constant = tells.exactly place (omega (arith, within)) in
+      let same : number_of c.pool (suc place) ≡ number_of c.pool place =
+      ap (λ o. first_number o (suc place)) there ∙ (let more : suc place ≡ place + 1 = omega arith in more)
+      ∙ sym (ap (λ o. first_number o place) before.2) in
+      one_answer (get_or flags (suc place) false) (get_or flags place false) hole
+      ((λ up. subst (IsLive c) (sym same) (constant.0 up)), (λ live. constant.1 (subst (IsLive c) same live)))
+
+  pub is_closed : IsClass c → IsClosed c.pool flags
+  is_closed fits = record {
+    pool = fits.pool;
+    few = (let slots = fits.slots in omega (arith, slots));
+    lower = judged_is.lower;
+    size = tells.size;
+    holes = holes_follow fits.pool;
+    names = names_kept;
+  }
 
   -- the number at a site is an optional 0 or that of a kept constant
-  pub site_kept : (found : List FoundSite) → found_in c ≡ Some found → (f : FoundSite) → Contains found f → (f.number ≡ 0)
-      ⊎ IsKept c.pool flags f.number
-  site_kept found is f there =
-      live_kept f.number (f.number, [], (found, is, contains_map (λ (g : FoundSite). g.number) found f there), refl)
+  pub site_kept : (f : FoundSite) → Contains judged_is.found f → (f.number ≡ 0) ⊎ IsKept c.pool flags f.number
+  site_kept f there = go (site_names c.pool f (all_at (names_constant c.pool) judged_is.found f there judged_is.constants))
+    where
+      go : (f.number ≡ 0) ⊎ (is_some (rank_at c.pool f.number) ≡ true) → (f.number ≡ 0) ⊎ IsKept c.pool flags f.number
+      go (inl none) = inl none
+      go (inr ranked) =
+          let stands = contains_map (λ (g : FoundSite). g.number) judged_is.found f there in
+          inr (ranked_kept f.number (f.number, [], (judged_is.found, judged_is.is, stands), refl) ranked)
 
 -- where each slot's constant is live, all flags are up
 pub all_up : (c : ClassData) (flags : List Bool) → TellsLive c flags → ((place : ℕ) → place < length c.pool

@@ -14,17 +14,18 @@ kept_before-small (flag ∷ flags) zero = omega arith
 kept_before-small (true ∷ flags) (suc place) = let rest = kept_before-small flags place in omega (arith, rest)
 kept_before-small (false ∷ flags) (suc place) = let rest = kept_before-small flags place in omega (arith, rest)
 
--- a kept slot is one more in front of the next
-pub kept_before-more : (flags : List Bool) (place : ℕ) → get_or flags place false ≡ true → kept_before flags (suc place)
-    ≡ 1 + kept_before flags place
-kept_before-more [] place up = cc
-kept_before-more (true ∷ flags) zero up = refl
-kept_before-more (false ∷ flags) zero up = cc
-kept_before-more (true ∷ flags) (suc place) up = let rest = kept_before-more flags place up in omega (arith, rest)
-kept_before-more (false ∷ flags) (suc place) up = let rest = kept_before-more flags place up in omega (arith, rest)
+-- a kept slot is one more before the next
+pub kept_before-next : (flags : List Bool) (place : ℕ) → kept_before flags (suc place)
+    ≡ kept_before flags place + cond (get_or flags place false) 1 0
+kept_before-next [] zero = refl
+kept_before-next [] (suc place) = refl
+kept_before-next (true ∷ flags) zero = refl
+kept_before-next (false ∷ flags) zero = refl
+kept_before-next (true ∷ flags) (suc place) = let rest = kept_before-next flags place in omega (arith, rest)
+kept_before-next (false ∷ flags) (suc place) = kept_before-next flags place
 
 -- all are kept
-pub kept_before-all : (flags : List Bool) → ((place : ℕ) → place < length flags → get_or flags place false ≡ true) → (place : ℕ)
+kept_before-all : (flags : List Bool) → ((place : ℕ) → place < length flags → get_or flags place false ≡ true) → (place : ℕ)
     → place ≤ length flags → kept_before flags place ≡ place
 kept_before-all [] all zero within = refl
 kept_before-all [] all (suc place) within = absurd (omega (arith, within))

@@ -1,38 +1,25 @@
 -- The new numbers of slots, one slot after another.
 use Rattle.std.proofs.Common.{◌≡◌, ℕ, suc, ◌+◌, ◌-◌, ◌<◌, ◌≤◌, ◌⊎◌, inl, inr, Bool, true, false, cond, List}
-use Rattle.std.proofs.Common.{[], ◌∷◌, ◌++◌, length, take, get_or, map, filter, refl, sym, ap, ◌∙◌, arith}
-use Rattle.std.proofs.Common.{length-append}
+use Rattle.std.proofs.Common.{[], ◌∷◌, ◌++◌, length, get_or, map, filter, refl, sym, ap, ◌∙◌, arith}
 use Rattle.std.proofs.lemmas.Bool.{cases_lt}
 use Rattle.std.proofs.lemmas.List.{take_all, get_or_past}
-use Rattle.std.proofs.lemmas.List.Elements.{filter-append}
 use Rattle.std.proofs.lemmas.List.FromFn.{map-range_with_len_more, get_or-map-range_with_len, length-map-range_with_len}
-use Rattle.std.proofs.Math.Seq.{take-suc}
 use Rattle.std.specs.List.{range_with_len}
 use Rattle.std.specs.Prelude.{nat_eq}
 use Rattle.jm_compact.specs.declared.numbers.Numbers.{Numbers}
 use Rattle.jm_compact.specs.Compact.{kept_before, new_number}
+use Rattle.jm_compact.proofs.NewNumbers.{kept_before-next}
 use Rattle.jm_compact.specs.Steps.{AreNumbers, by_numbers}
 
-kept_before-next : (flags : List Bool) (place : ℕ) → place < length flags → kept_before flags (place + 1) ≡ kept_before flags place
-    + cond (get_or flags place false) 1 0
-kept_before-next flags place below =
+pub count_next : (flags : List Bool) (place : ℕ) → (1 + kept_before flags place) + cond (get_or flags place false) 1 0
+    ≡ 1 + kept_before flags (place + 1)
+count_next flags place =
     let one : place + 1 ≡ suc place = omega arith in
-    ap (kept_before flags) one
-    ∙ ap (λ t. length (filter (λ flag. flag) t)) (take-suc flags place false below)
-    ∙ ap length (filter-append (λ flag. flag) (take place flags) (get_or flags place false ∷ []))
-    ∙ length-append (filter (λ flag. flag) (take place flags)) (filter (λ flag. flag) (get_or flags place false ∷ []))
-    ∙ ap (λ n. kept_before flags place + n) (go (get_or flags place false))
-  where
-    go : (flag : Bool) → length (filter (λ flag. flag) (flag ∷ [])) ≡ cond flag 1 0
-    go true = refl
-    go false = refl
+    let next = ap (kept_before flags) one ∙ kept_before-next flags place in
+    omega (arith, next)
 
-pub count_next : (flags : List Bool) (place : ℕ) → place < length flags → (1 + kept_before flags place)
-    + cond (get_or flags place false) 1 0 ≡ 1 + kept_before flags (place + 1)
-count_next flags place below = let next = kept_before-next flags place below in omega (arith, next)
-
--- behind the last slot nothing more is kept
-pub kept_before-end : (flags : List Bool) (place : ℕ) → length flags ≤ place → kept_before flags place ≡ kept_before flags (length flags)
+-- after the last slot nothing more is kept
+kept_before-end : (flags : List Bool) (place : ℕ) → length flags ≤ place → kept_before flags place ≡ kept_before flags (length flags)
 kept_before-end flags place past = ap (λ t. length (filter (λ flag. flag) t)) (take_all place flags past
     ∙ sym (take_all (length flags) flags (omega arith)))
 

@@ -26,7 +26,7 @@ numbers [] = []
 numbers (Plain bytes ∷ pieces) = numbers pieces
 numbers (Number wide n ∷ pieces) = n ∷ numbers pieces
 
-pub numbers-put : {A B : Type 0} (new : A → B) (pieces : List (Piece A)) → numbers (put_for_all new pieces) ≡ map new (numbers pieces)
+numbers-put : {A B : Type 0} (new : A → B) (pieces : List (Piece A)) → numbers (put_for_all new pieces) ≡ map new (numbers pieces)
 numbers-put new [] = refl
 numbers-put new (Plain bytes ∷ pieces) = numbers-put new pieces
 numbers-put new (Number wide n ∷ pieces) = ap (λ t. new n ∷ t) (numbers-put new pieces)
@@ -57,7 +57,7 @@ numbers-cut = by_shape (λ places body. numbers (cut (sites_at places) 0 body) �
 -- Other numbers
 
 -- numbers that are changed take as many bytes
-pub length-renumbered : (new : ℕ → ℕ) (tag : ℕ) (body : List ℕ) → FitsTag tag body → length (renumbered new (name_sites tag) 0 body)
+length-renumbered : (new : ℕ → ℕ) (tag : ℕ) (body : List ℕ) → FitsTag tag body → length (renumbered new (name_sites tag) 0 body)
     ≡ length body
 length-renumbered new = by_shape (λ places body. length (renumbered new (sites_at places) 0 body) ≡ length body)
     (λ body. ap length (append-nil body)) (λ a b. refl) (λ a b c d. refl) (λ a b c d. refl) (λ a b c. refl)
@@ -117,11 +117,6 @@ pub renamed_twice : (new other : ℕ → ℕ) (tag : ℕ) (body : List ℕ) → 
 renamed_twice new other tag body fits below =
     ap (λ pieces. Constant tag (text_of (put_for_all other pieces))) (cut-renumbered new tag body fits below)
     ∙ ap (λ pieces. Constant tag (text_of pieces)) (put_twice new other (cut (name_sites tag) 0 body))
-
--- the same numbers, written again
-pub renamed_again : (new : ℕ → ℕ) (tag : ℕ) (body : List ℕ) → FitsTag tag body → AllFitTwo new (named_by (Constant tag body))
-    → renamed (λ n. n) (renamed new (Constant tag body)) ≡ renamed new (Constant tag body)
-renamed_again new tag body fits below = renamed_twice new (λ n. n) tag body fits below
 
 -- the text is as long
 pub length-renamed : (new : ℕ → ℕ) (tag : ℕ) (body : List ℕ) → FitsTag tag body

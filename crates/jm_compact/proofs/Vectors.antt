@@ -3,7 +3,7 @@ use Rattle.std.proofs.Common.{◌≡◌, ℕ, List, [], ◌∷◌, ◌++◌, len
 use Rattle.jm_poolmap.proofs.Vectors.{generated}
 use Rattle.jm_compact.specs.Compact.{compact_for}
 
--- the generated class loses its constants 8 to 10; the Long behind them gets their number
+-- the generated class loses its constants 8 to 10; the Long after them gets their number
 abbrev compacted : List ℕ
 compacted =
     take 8 generated ++ (0 ∷ 10 ∷ []) ++ take 58 (drop 10 generated) ++ take 43 (drop 112 generated)

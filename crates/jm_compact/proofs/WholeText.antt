@@ -4,8 +4,9 @@ use Rattle.std.proofs.Common.{length, Bool}
 use Rattle.jm_bytes.specs.declared.faults.Or.{Or}
 use Rattle.jm_bytes.specs.declared.faults.Or.TheVariants.{Fault, Memory}
 use Rattle.jm_bytes.specs.Results.{IfAnswered}
+use Rattle.jm_bytes.proofs.Choice.{same_some}
 use Rattle.jm_class.specs.declared.class.ClassFault.{ClassFault}
-use Rattle.jm_class.specs.Classes.{ClassData, class_text, ReadsAs, IsClass}
+use Rattle.jm_class.specs.Classes.{ClassData, ReadsAs, IsClass}
 use Rattle.jm_class.specs.Layouts.{fault_of}
 use Rattle.jm_class.specs.Releases.{IsReadFor, ReadsFor, class_for, fault_for, newest_major}
 use Rattle.jm_class.proofs.ClassLaws.{reads_once}
@@ -14,119 +15,97 @@ use Rattle.jm_class.proofs.ReadingLaws.{IsBytes}
 use Rattle.jm_poolmap.specs.declared.site.Site.{Site}
 use Rattle.jm_poolmap.specs.Live.{TellsLive}
 use Rattle.jm_poolmap.specs.Sites.{sites_of}
-use Rattle.jm_poolmap.proofs.ComputedLiveLaws.{live_known}
-use Rattle.jm_compact.specs.Compact.{IsCompact, Whole, Smaller, live_flags, flags_by, compact_with, text_by}
+use Rattle.jm_poolmap.proofs.ComputedLiveLaws.{flags_tell}
+use Rattle.jm_compact.specs.Compact.{IsCompact, Whole, Smaller, live_flags, compact_with, text_by}
 use Rattle.jm_compact.specs.Compact.{compact_text, with_text, compact_for}
 use Rattle.jm_compact.specs.Compacts.{CompactsFor}
 use Rattle.jm_compact.specs.Meaning.{SaysTheSame}
-use Rattle.jm_compact.proofs.CompactClass.{m, class_fits, class_reads, sites_again, again_same, says_the_same, not_longer}
+use Rattle.jm_compact.proofs.CompactClass.{compacted_class}
 use Rattle.jm_compact.proofs.Names.{judged_parts, told_once}
 
 -- the computed flags tell which constants are live
-pub live_flags-tell : (c : ClassData) (sites : List Site) → IsClass c → sites_of c ≡ Some sites → TellsLive c (live_flags c)
+live_flags-tell : (c : ClassData) (sites : List Site) → IsClass c → sites_of c ≡ Some sites → TellsLive c (live_flags c)
 live_flags-tell c sites fits is =
     let judged = judged_parts c sites is in
-    live_known c judged.found sites (live_flags c) fits judged.is is (ap (flags_by c) judged.is)
-
--- there are no others
-pub flags_same : (c : ClassData) (sites : List Site) (flags : List Bool) → IsClass c → sites_of c ≡ Some sites → TellsLive c flags
-    → flags ≡ live_flags c
-flags_same c sites flags fits is tells = told_once c flags (live_flags c) tells (live_flags-tell c sites fits is)
+    rw judged.is (flags_tell c fits judged.found judged.is judged.lower)
 
 module _ (c : ClassData) (fits : IsClass c) where
-  compact_sites : (sites : List Site) → sites_of c ≡ Some sites → compact_text c ≡ compact_with (live_flags c) sites c
-  compact_sites sites is = ap (text_by c) is
-
   -- the computed text is one by the rule
   pub rule : IsCompact c (compact_text c)
   rule = go (sites_of c) refl
     where
       go : (found : Option (List Site)) → sites_of c ≡ found → IsCompact c (compact_text c)
       go None is = Whole is (ap (text_by c) is)
-      go (Some sites) is = Smaller sites (live_flags c) is (live_flags-tell c sites fits is) (compact_sites sites is)
+      go (Some sites) is = Smaller sites (live_flags c) is (live_flags-tell c sites fits is) (ap (text_by c) is)
 
   -- there is no other
   pub rule_only : (text : List ℕ) → IsCompact c text → text ≡ compact_text c
   rule_only text (Whole is whole) = whole ∙ sym (ap (text_by c) is)
   rule_only text (Smaller sites flags is tells smaller) =
-      smaller ∙ ap (λ (own : List Bool). compact_with own sites c) (flags_same c sites flags fits is tells) ∙ sym (compact_sites sites is)
-
-module _ (c : ClassData) (fits : IsClass c) (bytes : IsBytes (class_text c)) where
-  pub says : (sites : List Site) → sites_of c ≡ Some sites → SaysTheSame c sites (compact_text c)
-  says sites is = says_the_same c fits bytes sites is (live_flags c) (live_flags-tell c sites fits is) (compact_text c)
-      (compact_sites c fits sites is)
-
-  pub shorter : length (compact_text c) ≤ length (class_text c)
-  shorter = go (sites_of c) refl
-    where
-      go : (found : Option (List Site)) → sites_of c ≡ found → length (compact_text c) ≤ length (class_text c)
-      go None is = let same = ap length (ap (text_by c) is) in omega (arith, same)
-      go (Some sites) is =
-          let same = ap length (compact_sites c fits sites is) in
-          let less = not_longer c fits bytes sites is (live_flags c) (live_flags-tell c sites fits is) in
-          omega (arith, same, less)
-
-  pub once : (release : ℕ) → c.major ≤ newest_major release → compact_for release (compact_text c) ≡ Ok (compact_text c)
-  once release most = go (sites_of c) refl
-    where
-      read_back : (d : ClassData) → IsClass d → d.major ≤ newest_major release → compact_for release (class_text d) ≡ Ok (compact_text d)
-      read_back d fine least = ap with_text (reads-class_for release (class_text d) d (record {
-        reads = record { well_formed = fine; text = refl };
-        major = least;
-      }))
-
-      go : (found : Option (List Site)) → sites_of c ≡ found → compact_for release (compact_text c) ≡ Ok (compact_text c)
-      go None is = ap (compact_for release) (ap (text_by c) is) ∙ read_back c fits most
-      go (Some sites) is =
-          let tells = live_flags-tell c sites fits is in
-          let d : ClassData = m c fits bytes sites is (live_flags c) tells in
-          let text : compact_text c ≡ class_text d = compact_sites c fits sites is ∙ class_reads c fits bytes sites is
-          (live_flags c) tells in
-          let fine : IsClass d = class_fits c fits bytes sites is (live_flags c) tells in
-          let found = sites_again c fits bytes sites is (live_flags c) tells in
-          let stays = again_same c fits bytes sites is (live_flags c) tells (live_flags d) (live_flags-tell d _ fine found) in
-          ap (compact_for release) text ∙ read_back d fine most ∙ ap Ok (ap (text_by d) found ∙ stays ∙ sym text)
+      let same = told_once c flags (live_flags c) tells (live_flags-tell c sites fits is) in
+      smaller ∙ ap (λ (own : List Bool). compact_with own sites c) same ∙ sym (ap (text_by c) is)
 
 -- Of the bytes of a class of a release
 
 module _ (release : ℕ) (bytes : List ℕ) (c : ClassData) (is : ReadsFor release bytes c) (all : IsBytes bytes) where
-  abbrev reads : ReadsAs bytes c
-  reads = is.reads
+  -- the bytes read as no other class
+  of_each : (P : ClassData → Type 0) → P c → (d : ClassData) → ReadsAs bytes d → P d
+  of_each P of_c d reads = subst P (reads_once bytes c d is.reads reads) of_c
 
-  class_bytes : IsBytes (class_text c)
-  class_bytes = subst IsBytes (sym reads.text) all
+  read_again : (text : List ℕ) (d : ClassData) → ReadsAs text d → d.major ≤ newest_major release → compact_for release text
+      ≡ Ok (compact_text d)
+  read_again text d reads least = ap with_text (reads-class_for release text d (record { reads = reads; major = least }))
 
-  only : (d : ClassData) → ReadsAs bytes d → c ≡ d
-  only d other = reads_once bytes c d reads other
+  -- what is still due, whether the class has sites or not
+  record Due (text : List ℕ) : Type 0 where
+    says : (sites : List Site) → sites_of c ≡ Some sites → SaysTheSame c sites text
+    stays : sites_of c ≡ None → text ≡ bytes
+    again : compact_for release text ≡ Ok text
+    shorter : length text ≤ length bytes
 
-  rule_text : (d : ClassData) → ReadsAs bytes d → IsCompact d (compact_text c)
-  rule_text d other = subst (λ e. IsCompact e (compact_text c)) (only d other) (rule c reads.well_formed)
-
-  says_text : (d : ClassData) (sites : List Site) → ReadsAs bytes d → sites_of d ≡ Some sites → SaysTheSame d sites (compact_text c)
-  says_text d sites other sites_are =
-      let same = only d other in
-      subst (λ e. SaysTheSame e sites (compact_text c)) same (says c reads.well_formed class_bytes sites (ap sites_of same ∙ sites_are))
-
-  stays_text : (d : ClassData) → ReadsAs bytes d → sites_of d ≡ None → compact_text c ≡ bytes
-  stays_text d other none = ap (text_by c) (ap sites_of (only d other) ∙ none) ∙ reads.text
-
-  shorter_text : length (compact_text c) ≤ length bytes
-  shorter_text =
-      let less = shorter c reads.well_formed class_bytes in
-      let size = ap length reads.text in
-      omega (arith, less, size)
+  due : (text : List ℕ) → IsCompact c text → Due text
+  due text (Whole none whole) =
+      let same = whole ∙ is.reads.text in
+      let size = ap length same in
+      record {
+        says = λ sites some. let both = sym none ∙ some in cc;
+        stays = λ _. same;
+        again = read_again text c (record { well_formed = is.reads.well_formed; text = sym whole }) is.major
+            ∙ ap Ok (ap (text_by c) none ∙ sym whole);
+        shorter = omega (arith, size);
+      }
+  due text (Smaller sites flags some tells smaller) =
+      let small = compacted_class c is.reads.well_formed (subst IsBytes (sym is.reads.text) all) sites some flags tells in
+      let d = small.says.class in
+      let major = small.major in
+      let most = is.major in
+      let size = ap length is.reads.text in
+      let less = small.shorter in
+      rw smaller (record {
+        says = λ others others_are. subst (λ s. SaysTheSame c s (compact_with flags sites c))
+            (same_some sites others (sym some ∙ others_are)) small.says;
+        stays = λ none. let both = sym none ∙ some in cc;
+        again = read_again (compact_with flags sites c) d small.says.reads (omega (arith, major, most))
+            ∙ ap Ok (ap (text_by d) small.says.found
+            ∙ small.stays (live_flags d) (live_flags-tell d small.says.sites small.says.reads.well_formed small.says.found));
+        shorter = omega (arith, size, less);
+      })
 
   pub compacts : (text : List ℕ) → text ≡ compact_text c → CompactsFor release bytes (Ok text)
-  compacts text same = subst (λ t. CompactsFor release bytes (Ok t)) (sym same) (record {
-    computed = ap with_text (reads-class_for release bytes c is);
-    rule = rule_text;
-    says = says_text;
-    stays = stays_text;
-    again = once c reads.well_formed class_bytes release is.major;
-    shorter = shorter_text;
-    no_fault = ap fault_of (reads-class_for release bytes c is);
-    fault = λ fault e. cc;
-  })
+  compacts text same =
+      let by_rule : IsCompact c text = rw same (rule c is.reads.well_formed) in
+      let due = due text by_rule in
+      record {
+        computed = ap with_text (reads-class_for release bytes c is) ∙ ap Ok (sym same);
+        rule = of_each (λ d. IsCompact d text) by_rule;
+        says = λ d sites reads. of_each (λ d. (sites : List Site) → sites_of d ≡ Some sites → SaysTheSame d sites text)
+            due.says d reads sites;
+        stays = of_each (λ d. sites_of d ≡ None → text ≡ bytes) due.stays;
+        again = due.again;
+        shorter = due.shorter;
+        no_fault = ap fault_of (reads-class_for release bytes c is);
+        fault = λ fault e. cc;
+      }
 
 -- Of bytes that are none, or where memory is wanted
 
@@ -141,7 +120,8 @@ refused_text release bytes fault is = go (class_for release bytes) refl is
 -- what is due of bytes that give no text
 compacts_none : (release : ℕ) (bytes : List ℕ) (error : Or ClassFault)
     → IfAnswered (λ (r : Result (List ℕ) ClassFault). compact_for release bytes ≡ r) (Err error)
-    → ((fault : ClassFault) → ◌≡◌ {A = Result (List ℕ) (Or ClassFault)} (Err error) (Err (Fault fault)) → fault_for release bytes ≡ Some fault)
+    → ((fault : ClassFault) → ◌≡◌ {A = Result (List ℕ) (Or ClassFault)} (Err error) (Err (Fault fault))
+    → fault_for release bytes ≡ Some fault)
     → CompactsFor release bytes (Err error)
 compacts_none release bytes error computed fault = record {
   computed = computed;

@@ -1,7 +1,7 @@
 -- Classes without the constants that aren't live, the others numbered anew in their order (this
 -- project's rule; what a constant pool is says JVMS 4.4).
 use Rattle.std.specs.Prelude.{ℕ, ◌≡◌, ◌+◌, ◌-◌, ◌==◌, Bool, List, [], ◌++◌, length, map}
-use Rattle.std.specs.Prelude.{filter, take, drop, Option, Some, None, Result, Ok, Err}
+use Rattle.std.specs.Prelude.{filter, take, Option, Some, None, Result, Ok, Err}
 use Rattle.std.specs.Prelude.{if◌then◌else◌}
 use Rattle.std.specs.List.{zip}
 use Rattle.jm_class.specs.declared.class.ClassFault.{ClassFault}
@@ -11,16 +11,16 @@ use Rattle.jm_poolmap.specs.declared.site.FoundSite.{FoundSite}
 use Rattle.jm_poolmap.specs.declared.site.Site.{Site}
 use Rattle.jm_poolmap.specs.ComputedLive.{flags_of}
 use Rattle.jm_poolmap.specs.Live.{TellsLive}
-use Rattle.jm_poolmap.specs.Sites.{name_sites, found_in, sites_of}
+use Rattle.jm_poolmap.specs.Sites.{name_sites, pool_end, back, found_in, sites_of}
 use Rattle.jm_compact.specs.Pieces.{renumbered}
 
 -- Numbers, by a flag for each slot that says whether it is kept
 
--- how many of the slots in front of a place are kept
+-- how many of the slots before a place are kept
 abbrev pub kept_before : List Bool → ℕ → ℕ
 kept_before flags place = length (filter (λ flag. flag) (take place flags))
 
--- the new number of a constant: 1 and the kept slots in front of its own; 0, which is none, stays
+-- the new number of a constant: 1 and the kept slots before its own; 0, which is none, stays
 abbrev pub new_number : List Bool → ℕ → ℕ
 new_number flags index = if index == 0 then 0 else 1 + kept_before flags (index - 1)
 
@@ -41,17 +41,9 @@ compact_pool flags pool = map (renamed (new_number flags)) (kept flags pool)
 
 -- Classes
 
--- what stands in front of the pool: magic and versions, 8 bytes
+-- what stands before the pool: magic and versions, 8 bytes
 abbrev pub front : ClassData → List ℕ
 front c = take 8 (class_text c)
-
--- how many bytes stand up to the end of the pool
-abbrev pub pool_end : ClassData → ℕ
-pool_end c = 8 + length (pool_text c.pool)
-
--- what stands behind the pool
-abbrev pub back : ClassData → List ℕ
-back c = drop (pool_end c) (class_text c)
 
 -- the text of a class with the kept constants, and with new numbers at the sites
 abbrev pub compact_with : List Bool → List Site → ClassData → List ℕ

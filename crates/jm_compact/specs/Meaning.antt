@@ -4,14 +4,13 @@ use Rattle.jm_class.specs.Classes.{SlotData, Constant, Hole, ClassData, slot_at}
 use Rattle.jm_class.specs.Classes.{ReadsAs}
 use Rattle.jm_poolmap.specs.declared.site.Site.{Site}
 use Rattle.jm_poolmap.specs.Live.{IsLive, number_of}
-use Rattle.jm_poolmap.specs.Sites.{name_sites, sites_of}
+use Rattle.jm_poolmap.specs.Sites.{name_sites, pool_end, back, sites_of}
 use Rattle.jm_compact.specs.Pieces.{Piece, cut, put_for_all}
-use Rattle.jm_compact.specs.Compact.{front, pool_end, back}
+use Rattle.jm_compact.specs.Compact.{front}
 
--- Trees of constants, at most so deep: the tag, and the body with a tree in the place of each
--- number; or none, for 0
+-- Trees of constants, down to a depth
 
--- a constant as far as so many steps lead: none, or its tag and its body with a tree in the place
+-- a constant as far as that many steps lead: none, or its tag and its body with a tree in the place
 -- of each number
 abbrev pub Tree : ℕ → Type 0
 Tree zero = Unit {0}
@@ -25,7 +24,7 @@ slot_tree tree (Some Hole) = None
 slot_tree tree (Some (Constant tag body)) =
     Some (tag, put_for_all tree (cut (name_sites tag) 0 body))
 
--- the constant of a number as a tree, at most so deep
+-- the constant of a number as a tree, at most that deep
 abbrev pub tree : (depth : ℕ) → List SlotData → ℕ → Tree depth
 tree zero pool index = tt
 tree (suc depth) pool index = slot_tree (tree depth pool) (slot_at pool index)

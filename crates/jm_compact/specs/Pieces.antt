@@ -1,21 +1,17 @@
 -- Bytes cut at the places where numbers of constants stand (this project's rule).
 use Rattle.std.specs.Prelude.{ℕ, ◌+◌, ◌-◌, Bool, List, [], ◌∷◌, ◌++◌, map, take, drop}
-use Rattle.std.specs.Prelude.{if◌then◌else◌}
-use Rattle.std.specs.Int.{Width, w8, w16, byte_len, to_be_bytes, from_be_bytes}
+use Rattle.std.specs.Int.{byte_len, to_be_bytes, from_be_bytes}
 use Rattle.jm_poolmap.specs.declared.site.Site.{Site}
+use Rattle.jm_poolmap.specs.Forms.{site_width}
 
 -- bytes as they are, or what stands at a site, of two bytes or of one
 pub data Piece (A : Type 0) : Type 0 where
   Plain : (bytes : List ℕ) → Piece A
   Number : (wide : Bool) (number : A) → Piece A
 
--- the width of a number: of two bytes where it is wide, else of one
-abbrev pub width : Bool → Width
-width wide = if wide then w16 else w8
-
 -- how many bytes such a number has
 abbrev pub size : Bool → ℕ
-size wide = byte_len (width wide)
+size wide = byte_len (site_width wide)
 
 -- bytes from a place on, cut at sites: the bytes between two sites, and the number at each
 abbrev pub cut : List Site → ℕ → List ℕ → List (Piece ℕ)
@@ -23,7 +19,7 @@ cut [] at bytes = Plain bytes ∷ []
 cut (site ∷ sites) at bytes =
     Plain (take (site.place - at) bytes)
     ∷ Number site.wide
-    (from_be_bytes (width site.wide) (take (size site.wide) (drop (site.place - at) bytes)))
+    (from_be_bytes (site_width site.wide) (take (size site.wide) (drop (site.place - at) bytes)))
     ∷ cut sites (site.place + size site.wide)
     (drop (size site.wide) (drop (site.place - at) bytes))
 
@@ -39,7 +35,7 @@ put_for_all new pieces = map (put_for new) pieces
 -- the bytes of a piece
 abbrev pub piece_text : Piece ℕ → List ℕ
 piece_text (Plain bytes) = bytes
-piece_text (Number wide number) = to_be_bytes (width wide) number
+piece_text (Number wide number) = to_be_bytes (site_width wide) number
 
 -- pieces end to end
 abbrev pub text_of : List (Piece ℕ) → List ℕ

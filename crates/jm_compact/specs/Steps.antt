@@ -14,7 +14,7 @@ AreIn [] at end = at ≤ end
 AreIn (site ∷ sites) at end =
     (at ≤ site.place) × AreIn sites (site.place + size site.wide) end
 
--- the new number of each slot's constant, and of one behind them all
+-- the new number of each slot's constant, and of one after them all
 pub record AreNumbers (flags : List Bool) (numbers : Numbers) : Type 0 where
   pub slots : numbers.slots
       ≡ map (λ place. 1 + kept_before flags place) (range_with_len 0 (length flags))

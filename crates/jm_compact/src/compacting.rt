@@ -11,8 +11,8 @@ use crate::pool::put_pool;
 use crate::sites::put_renumbered;
 use jm_bytes::{NoMemory, Or, Text, extend};
 use jm_class::{Class, ClassFault, DEFAULT_RELEASE, read_for};
-use jm_classout::{put16, slots_size};
-use jm_poolmap::{PoolMap, pool_map};
+use jm_classout::put16;
+use jm_poolmap::{PoolMap, after_pool, pool_map};
 use std::alloc::Global;
 
 /// The text of a class without the constants that aren't live.
@@ -29,11 +29,10 @@ fn put_class(alloc: Global, bytes: &[u8], class: &Class, known: &PoolMap) -> Res
     let (front, _) = bytes.split_at(8);
     extend(&mut text, front)?;
     put16(&mut text, numbers.count())?;
-    let pool = class.pool.as_slice();
-    put_pool(&mut text, pool, flags, &numbers)?;
-    let pool_end = 10 + slots_size(pool) as usize;
-    let (_, back) = bytes.split_at(pool_end);
-    put_renumbered(&mut text, known.sites.as_slice(), pool_end, back, &numbers)?;
+    put_pool(&mut text, class.pool.as_slice(), flags, &numbers)?;
+    let after = after_pool(bytes, class);
+    let sites = known.sites.as_slice();
+    put_renumbered(&mut text, sites, after.place(), after.rest(), &numbers)?;
     Ok(Text::from_vec(text))
 }
 
@@ -42,7 +41,7 @@ fn text_of(alloc: Global, bytes: &[u8], class: &Class) -> Result<Text, NoMemory>
     requires reads { ReadsAs bytes.now (plain class.now) }
     ensures { IfOk result (λ text. text ≡ compact_text (plain class.now)) }
 {
-    match pool_map(alloc, class)? {
+    match pool_map(alloc, bytes, class)? {
         Some(known) => put_class(alloc, bytes, class, &known),
         None => Text::copy_of(alloc, bytes),
     }

@@ -36,7 +36,7 @@ impl Numbers {
         Ok(Numbers { slots, count })
     }
 
-    /// The count that stands in front of the new pool.
+    /// The count that stands before the new pool.
     pub fn count(&self) -> u16
         ensures { result ≡ self.now.count }
     {

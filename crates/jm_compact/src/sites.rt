@@ -1,6 +1,7 @@
 ghost use Rattle.std.specs.Prelude.{◌≡◌, ◌++◌, ◌+◌, ◌<◌, ◌^◌, length, OnOk};
 ghost use Rattle.std.specs.Int.{to_be_bytes, from_be_bytes};
-ghost use Rattle.jm_compact.specs.Pieces.{width, size, renumbered};
+ghost use Rattle.jm_poolmap.specs.Forms.{site_width};
+ghost use Rattle.jm_compact.specs.Pieces.{size, renumbered};
 ghost use Rattle.jm_compact.specs.Steps.{AreIn, by_numbers};
 
 use crate::numbers::Numbers;
@@ -23,8 +24,8 @@ fn put_number(
 ) -> Result<(), NoMemory>
     requires { length bytes.now ≡ size wide }
     ensures { OnOk result (text.new.items ≡ text.old.items
-        ++ to_be_bytes (width wide)
-        (by_numbers numbers.now (from_be_bytes (width wide) bytes.now))) }
+        ++ to_be_bytes (site_width wide)
+        (by_numbers numbers.now (from_be_bytes (site_width wide) bytes.now))) }
 {
     if wide {
         let number = numbers.of(u16::from_be_bytes([bytes[0], bytes[1]]));
@@ -52,12 +53,12 @@ pub fn put_renumbered(
     let mut rest = bytes;
     for site in sites {
         let next = site.place as usize;
-        let (plain, behind) = rest.split_at(next - at);
-        let (number, behind) = behind.split_at(size(site.wide));
+        let (plain, after) = rest.split_at(next - at);
+        let (number, after) = after.split_at(size(site.wide));
         extend(text, plain)?;
         put_number(text, number, site.wide, numbers)?;
         at = next + size(site.wide);
-        rest = behind;
+        rest = after;
     }
     extend(text, rest)
 }

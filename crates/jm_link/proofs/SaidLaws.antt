@@ -2,16 +2,16 @@
 -- of its packages is added, and such a class isn't compacted. So what plug-ins make of a class of a
 -- release is one of that release, and of each later one.
 use Rattle.std.proofs.Common.{◌≡◌, ◌≤◌, ℕ, inl, inr, Bool, true, false, cond, List, [], ◌∷◌, Contains, Option, rules}
-use Rattle.std.proofs.Common.{Some, None, Result, Ok, Err, refl, sym, ap, subst, ◌∙◌, filter, codes}
-use Rattle.std.proofs.Common.{map, not}
+use Rattle.std.proofs.Common.{Some, None, Result, Ok, Err, refl, sym, ap, subst, ◌∙◌, filter, codes, not}
+use Rattle.std.proofs.lemmas.List.Elements.{All-contains}
 use Rattle.std.proofs.lemmas.Bool.{false≢true}
 use Rattle.std.proofs.lemmas.Slice.Eq.{bytes_eq-Decides}
 use Rattle.std.specs.List.{cons_option, filter_map}
-use Rattle.std.specs.Prelude.{if◌then◌else◌, nat_lt, option_and_then}
+use Rattle.std.specs.Prelude.{if◌then◌else◌, is_some, nat_lt, option_and_then}
 use Rattle.std.specs.Str.{bytes_eq}
 use Rattle.jm_bytes.proofs.Choice.{chosen, same_ok}
-use Rattle.jm_bytes.proofs.Members.{contains_cases, contains_here, contains_later, contains_map, contains_none, from_filter_map}
-use Rattle.jm_class.specs.Classes.{SlotData, BodyData, Opaque, Coded, AttributeData, ClassData, utf8_at, class_text, IsClass}
+use Rattle.jm_bytes.proofs.Members.{contains_here, from_filter_map}
+use Rattle.jm_class.specs.Classes.{SlotData, AttributeData, ClassData, utf8_at, class_text, IsClass}
 use Rattle.jm_class.specs.Releases.{ReadsFor, class_for}
 use Rattle.jm_class.proofs.ReadingLaws.{IsBytes}
 use Rattle.jm_class.proofs.ReleaseLaws.{class_for-reads, reads-class_for, reads_for-later}
@@ -31,12 +31,11 @@ use Rattle.jm_modinfo.proofs.InfoLaws.{body_gives}
 use Rattle.jm_packages.specs.Packages.{packaged, packages_text}
 use Rattle.jm_packages.proofs.PackagedLaws.{packaged-class, packaged-info, packaged-major}
 use Rattle.jm_plugins.specs.ComputedPlugins.{stripped_text}
-use Rattle.jm_poolmap.specs.declared.forms.Place.TheVariants.{Class, Field, Method}
-use Rattle.jm_poolmap.specs.declared.walk.Walk.{Walk}
-use Rattle.jm_poolmap.specs.ComputedSites.{Step, Walked, attribute_step, back_step, each, found_by}
-use Rattle.jm_poolmap.specs.ComputedSites.{front_step, member_step, passes, step_on, steps, walk_of}
+use Rattle.jm_poolmap.specs.declared.forms.Place.TheVariants.{Class}
+use Rattle.jm_poolmap.specs.declared.site.FoundSite.{FoundSite}
+use Rattle.jm_poolmap.specs.Attributes.{class_rows, content_at, named}
 use Rattle.jm_poolmap.specs.Sites.{found_in, judged}
-use Rattle.jm_poolmap.proofs.ComputedSitesLaws.{found_is}
+use Rattle.jm_poolmap.proofs.ClassSays.{attributes_known}
 use Rattle.jm_strip.specs.Strip.{debug_names, is_among, stays, strip}
 use Rattle.jm_strip.proofs.StripLaws.{strip-class}
 
@@ -77,8 +76,8 @@ kept_bodies pool name other (a ∷ rest) = go (stays false pool a.name) refl (ke
     go : (b : Bool) → stays false pool a.name ≡ b → bodies pool name (filter (λ a. stays false pool a.name) rest)
         ≡ bodies pool name rest → filter_map (bytes_named pool name) (cond b (a ∷ filter (λ a. stays false pool a.name) rest)
         (filter (λ a. stays false pool a.name) rest)) ≡ bodies pool name (a ∷ rest)
-    go true is behind = ap (cons_option (bytes_named pool name a)) behind
-    go false is behind = behind ∙ sym (ap (λ o. cons_option o (bodies pool name rest)) (none is))
+    go true is later = ap (cons_option (bytes_named pool name a)) later
+    go false is later = later ∙ sym (ap (λ o. cons_option o (bodies pool name rest)) (none is))
 
 -- what a class says, by the bodies of its two attributes
 abbrev info_by : ClassData → List (List ℕ) → List (List ℕ) → Result Descriptor InfoFault
@@ -117,39 +116,17 @@ packaged_says release packages_of bytes c d of_release is =
       info = packaged-info packages c d fits is;
     }
 
--- An attribute that isn't listed
-
-abbrev Fails : Step → Type 0
-Fails step = (walk : Walk) → step walk ≡ Err tt
-
--- steps of which one always fails
-one_fails : (ss : List Step) (s : Step) → Contains ss s → Fails s → Fails (steps ss)
-one_fails [] s there fails walk = absurd (contains_none s there)
-one_fails (t ∷ ss) s there fails walk =
-    elim (contains_cases t ss s there) [
-      | inl same ↦ ap (λ (u : Step). step_on (u walk) (steps ss)) same ∙ ap (λ (w : Walked). step_on w (steps ss)) (fails walk)
-      | inr later ↦ go (t walk) (one_fails ss s later fails)
-    ]
-  where
-    go : (w : Walked) → Fails (steps ss) → step_on w (steps ss) ≡ Err tt
-    go (Ok next) rest = rest next
-    go (Err fault) rest = refl
+-- An attribute that isn't known
 
 -- the attribute of a module's class
 record HasModule (c : ClassData) : Type 0 where
   attribute : AttributeData
-  bytes : List ℕ
   there : Contains c.attributes attribute
   name : utf8_at c.pool attribute.name ≡ Some (codes "Module")
-  body : attribute.body ≡ Opaque bytes
 
 named_so : (o : Option (List ℕ)) (name : List ℕ) → is_named name o ≡ true → o ≡ Some name
 named_so (Some text) name is = ap Some ((bytes_eq-Decides text name).0 is)
 named_so None name is = absurd (false≢true is)
-
-plain_so : (b : BodyData) (bytes : List ℕ) → plain_bytes b ≡ Some bytes → b ≡ Opaque bytes
-plain_so (Opaque own) bytes is = cc
-plain_so (Coded code) bytes is = cc
 
 body_of : (pool : List SlotData) (modules : List (List ℕ)) (main : Result (Option (List ℕ)) InfoFault) (d : Descriptor)
     → with_body pool (only_body modules) main ≡ Ok d → (body : List ℕ) × (modules ≡ body ∷ [])
@@ -177,44 +154,23 @@ has_module c d is =
     elim (chosen (is_named (codes "Module") (utf8_at c.pool a.name)) (plain_bytes a.body) None (Some only.0) from.2) [
       | inl named ↦ record {
         attribute = a;
-        bytes = only.0;
         there = from.1;
         name = named_so (utf8_at c.pool a.name) (codes "Module") named.0;
-        body = plain_so a.body only.0 named.1;
       }
       | inr none ↦ cc
     ]
 
-unlisted_fails : (pool : List SlotData) (a : AttributeData) (bytes : List ℕ) → utf8_at pool a.name ≡ Some (codes "Module") → a.body
-    ≡ Opaque bytes → Fails (attribute_step Class pool a)
-unlisted_fails pool a bytes name body walk = rw (body, name) refl
-
-sixth : {X : Type 0} (a b c d e f : X) → Contains (a ∷ b ∷ c ∷ d ∷ e ∷ f ∷ []) f
-sixth a b c d e f = search (rules, contains_here, contains_later)
-
-back_fails : (c : ClassData) → HasModule c → Fails (back_step c)
-back_fails c has =
-    one_fails
-    (passes 2 ∷ each (member_step Field c.pool) c.fields ∷ passes 2 ∷ each (member_step Method c.pool) c.methods ∷ passes 2
-    ∷ each (attribute_step Class c.pool) c.attributes ∷ [])
-    (each (attribute_step Class c.pool) c.attributes)
-    (sixth (passes 2) (each (member_step Field c.pool) c.fields) (passes 2) (each (member_step Method c.pool) c.methods) (passes 2)
-    (each (attribute_step Class c.pool) c.attributes))
-    (one_fails (map (attribute_step Class c.pool) c.attributes) (attribute_step Class c.pool has.attribute)
-    (contains_map (attribute_step Class c.pool) c.attributes has.attribute has.there)
-    (unlisted_fails c.pool has.attribute has.bytes has.name has.body))
-
-walk_fails : (c : ClassData) → HasModule c → walk_of c ≡ Err tt
-walk_fails c has =
-    one_fails (front_step c ∷ back_step c ∷ []) (back_step c)
-    (contains_later (front_step c) (back_step c ∷ []) (back_step c) (contains_here (back_step c) []))
-    (back_fails c has) (record { found = []; place = 0 })
-
--- the class of a module is passed on as it is
+-- the class of a module has no sites, so it is passed on as it is
 pub module_stays : (c : ClassData) (d : Descriptor) → IsClass c → info_of c ≡ Ok d → compact_text c ≡ class_text c
-module_stays c d fits is =
-    let none : found_in c ≡ None = found_is c fits ∙ ap found_by (walk_fails c (has_module c d is)) in
-    ap (text_by c) (ap (option_and_then (judged c.pool)) none)
+module_stays c d fits is = ap (text_by c) (ap (option_and_then (judged c.pool)) (none (found_in c) refl))
+  where
+    none : (found : Option (List FoundSite)) → found_in c ≡ found → found_in c ≡ None
+    none None e = e
+    none (Some found) e =
+        let has = has_module c d is in
+        let known = All-contains (λ (a : AttributeData). is_some (content_at Class c.pool a.name) ≡ true) c.attributes has.attribute
+        (attributes_known c found fits e) has.there in
+        absurd (false≢true (ap (λ name. is_some (option_and_then (named class_rows) name)) (sym has.name) ∙ known))
 
 pub compacted_says : (release : ℕ) (bytes : List ℕ) (c : ClassData) (d : Descriptor) → ReadsFor release bytes c → info_of c ≡ Ok d
     → Says release (compact_text c) d

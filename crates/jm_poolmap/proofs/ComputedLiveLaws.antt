@@ -1,24 +1,22 @@
 -- The flags after three rounds tell which constants are live.
 use Rattle.std.proofs.Common.{◌≡◌, ℕ, zero, suc, ◌+◌, ◌-◌, ◌<◌, ◌≤◌, ◌↔◌, ◌⊎◌, inl, inr, Bool, true, false}
 use Rattle.std.proofs.Common.{cond, List, [], ◌∷◌, ◌++◌, get_or, length, map, replicate, Option, Some, None}
-use Rattle.std.proofs.Common.{Ok, Err, Contains, refl, sym, ap, ◌∙◌, subst, arith, slice_get}
-use Rattle.std.proofs.lemmas.Bool.{and_parts, eqb-false, ltb-true, ne_eqb}
+use Rattle.std.proofs.Common.{Contains, refl, sym, ap, ◌∙◌, subst, arith, slice_get}
+use Rattle.std.proofs.lemmas.Bool.{eqb-false, ltb-true, ne_eqb}
 use Rattle.std.proofs.lemmas.List.{length-replicate}
-use Rattle.std.proofs.lemmas.Option.{slice_get_within}
+use Rattle.std.proofs.lemmas.List.Elements.{All-contains}
+use Rattle.std.proofs.lemmas.List.Sums.{AllPass-from_list_all}
+use Rattle.std.proofs.lemmas.Option.{slice_get_within, get_or_from_slice_get}
 use Rattle.std.specs.List.{list_all}
-use Rattle.std.specs.Prelude.{◌&&◌, nat_eq, option_and_then, if◌then◌else◌}
+use Rattle.std.specs.Prelude.{nat_eq, option_and_then}
 use Rattle.jm_bytes.proofs.Choice.{same_some}
-use Rattle.jm_bytes.proofs.Members.{contains_none, contains_cases}
+use Rattle.jm_bytes.proofs.Members.{contains_none, element_at}
 use Rattle.jm_class.specs.Classes.{SlotData, Constant, Hole, ClassData, IsPoolFrom, is_wide, slot_at, IsClass}
 use Rattle.jm_poolmap.specs.declared.site.FoundSite.{FoundSite}
-use Rattle.jm_poolmap.specs.declared.site.Site.{Site}
-use Rattle.jm_poolmap.specs.declared.walk.Walk.{Walk}
 use Rattle.jm_poolmap.specs.ComputedLive.{with_marks, spread_from, flag_of, with_holes, flags_of}
-use Rattle.jm_poolmap.specs.ComputedSites.{walk_of, found_by}
 use Rattle.jm_poolmap.specs.Live.{Names, Leads, IsLive, first_number, number_of, TellsLive}
 use Rattle.jm_poolmap.specs.Sites.{rank, named_by, rank_of, rank_at, is_some_below, names_lower}
-use Rattle.jm_poolmap.specs.Sites.{names_constant, judged, site_of, found_in, sites_of}
-use Rattle.jm_poolmap.proofs.ComputedSitesLaws.{found_is}
+use Rattle.jm_poolmap.specs.Sites.{found_in}
 use Rattle.jm_poolmap.proofs.MarkLaws.{IsUp, HasFlag, length-marks, marks_here, marks_from, length-round}
 use Rattle.jm_poolmap.proofs.NamePlaces.{rank_within}
 use Rattle.jm_poolmap.proofs.MarkLaws.{round_keeps, round_follows, round_sound}
@@ -37,46 +35,43 @@ Led pool numbers j = (i : ℕ) × (between : List ℕ) × Contains numbers i × 
 -- Ranks
 
 pub all_at : {A : Type 0} (test : A → Bool) (xs : List A) (x : A) → Contains xs x → list_all test xs ≡ true → test x ≡ true
-all_at test [] x there all = absurd (contains_none x there)
-all_at test (y ∷ xs) x there all = go (contains_cases y xs x there) (λ later. all_at test xs x later
-    (and_parts (test y) (list_all test xs) all).1)
+all_at test xs x there all = All-contains (λ y. test y ≡ true) xs x (AllPass-from_list_all test xs all) there
+
+pub slot_contained : (pool : List SlotData) (place : ℕ) (slot : SlotData) → slice_get pool place ≡ Some slot → Contains pool slot
+slot_contained pool place slot is = (place, slice_get_within pool place slot is, get_or_from_slice_get pool place slot slot is)
+
+-- a number above 0 is that of a slot
+pub slot_of_number : (pool : List SlotData) (i : ℕ) (slot : SlotData) → slot_at pool i ≡ Some slot → (0 < i)
+    × (slice_get pool (i - 1) ≡ Some slot)
+slot_of_number pool i slot is = go (nat_eq i 0) refl is
   where
-    go : (y ≡ x) ⊎ Contains xs x → (Contains xs x → test x ≡ true) → test x ≡ true
-    go (inl same) rest = subst (λ z. test z ≡ true) same (and_parts (test y) (list_all test xs) all).0
-    go (inr later) rest = rest later
+    go : (b : Bool) → nat_eq i 0 ≡ b → cond b None (slice_get pool (i - 1)) ≡ Some slot → (0 < i) × (slice_get pool (i - 1) ≡ Some slot)
+    go true e is = cc
+    go false e is = (some, is)
+      where
+        some : 0 < i
+        some = let differs = eqb-false i 0 e in omega (arith, differs)
 
-slot_there : (pool : List SlotData) (place : ℕ) (slot : SlotData) → slice_get pool place ≡ Some slot → Contains pool slot
-slot_there [] place slot is = cc
-slot_there (first ∷ pool) zero slot is = let same : first ≡ slot = cc in (0, omega arith, same)
-slot_there (first ∷ pool) (suc place) slot is =
-    let rest = slot_there pool place slot is in (suc rest.0, (let below = rest.1 in omega (arith, below)), rest.2)
+pub slot_at-place : (pool : List SlotData) (place : ℕ) → slot_at pool (place + 1) ≡ slice_get pool place
+slot_at-place pool place =
+    let back : (place + 1) - 1 ≡ place = omega arith in
+    let test : nat_eq (place + 1) 0 ≡ false = ne_eqb (place + 1) 0 (λ e. omega (arith, e)) in
+    rw (test, back) refl
 
-pub below_found : (limit : ℕ) (found : Option ℕ) → is_some_below limit found ≡ true → (r : ℕ) × (found ≡ Some r) × (r < limit)
+below_found : (limit : ℕ) (found : Option ℕ) → is_some_below limit found ≡ true → (r : ℕ) × (found ≡ Some r) × (r < limit)
 below_found limit None e = cc
 below_found limit (Some r) e = (r, refl, ltb-true r limit e)
 
 module _ (pool : List SlotData) (lower : list_all (names_lower pool) pool ≡ true) where
   -- what a constant names is of a lower rank
-  lower_at : (place : ℕ) (slot : SlotData) (limit index : ℕ) → slice_get pool place ≡ Some slot → rank_of slot ≡ Some limit
+  pub lower_at : (place : ℕ) (slot : SlotData) (limit index : ℕ) → slice_get pool place ≡ Some slot → rank_of slot ≡ Some limit
       → Contains (named_by slot) index → (r : ℕ) × (rank_at pool index ≡ Some r) × (r < limit)
   lower_at place (Constant tag body) limit index is ranked there =
-      let all = all_at (names_lower pool) pool (Constant tag body) (slot_there pool place (Constant tag body) is) lower in
+      let all = all_at (names_lower pool) pool (Constant tag body) (slot_contained pool place (Constant tag body) is) lower in
       let one = all_at (λ index. is_some_below (rank tag) (rank_at pool index)) (named_by (Constant tag body)) index there all in
       let same = same_some (rank tag) limit ranked in
       subst (λ l. (r : ℕ) × (rank_at pool index ≡ Some r) × (r < l)) same (below_found (rank tag) (rank_at pool index) one)
   lower_at place Hole limit index is ranked there = cc
-
-  -- a number above 0 is that of a slot
-  slot_of_number : (index : ℕ) (slot : SlotData) → slot_at pool index ≡ Some slot → (0 < index) × (slice_get pool (index - 1) ≡ Some slot)
-  slot_of_number index slot is = go (nat_eq index 0) refl is
-    where
-      go : (b : Bool) → nat_eq index 0 ≡ b → cond b None (slice_get pool (index - 1)) ≡ Some slot → (0 < index)
-          × (slice_get pool (index - 1) ≡ Some slot)
-      go true e is = cc
-      go false e is = (some, is)
-        where
-          some : 0 < index
-          some = let differs = eqb-false index 0 e in omega (arith, differs)
 
   -- who names something is a constant
   ranked : (slot : SlotData) (index : ℕ) → Contains (named_by slot) index → (r : ℕ) × (rank_of slot ≡ Some r) × (r ≤ 3)
@@ -91,14 +86,14 @@ module _ (pool : List SlotData) (lower : list_all (names_lower pool) pool ≡ tr
       go None e is = cc
       go (Some slot) e is = (slot, e, is)
 
-  -- the constants behind one are no more than its rank
+  -- the constants that one leads to, one after the other, are no more than its rank
   short : (i : ℕ) (slot : SlotData) (r : ℕ) (between : List ℕ) (j : ℕ) → slot_at pool i ≡ Some slot → rank_of slot ≡ Some r
       → Leads pool i between j → length between ≤ r
   short i slot r [] j is is_ranked leads = omega arith
   short i slot r (k ∷ between) j is is_ranked (names, leads) =
       let same = same_some names.0 slot (sym names.1 ∙ is) in
       let named = subst (λ s. Contains (named_by s) k) same names.2 in
-      let there = slot_of_number i slot is in
+      let there = slot_of_number pool i slot is in
       let less = lower_at (i - 1) slot r k there.1 is_ranked named in
       let next = rank_slot k less.0 less.1 in
       let rest = short k next.0 less.0 between j next.1 next.2 leads in
@@ -112,12 +107,12 @@ module _ (pool : List SlotData) (lower : list_all (names_lower pool) pool ≡ tr
       let one = ranked slot index there in
       let less = lower_at place slot one.0 index is one.1 there in
       let next = rank_slot index less.0 less.1 in
-      let at = slot_of_number index next.0 next.1 in
+      let at = slot_of_number pool index next.0 next.1 in
       let some = at.0 in
       let within = slice_get_within pool (index - 1) next.0 at.1 in
       record { some = some; within = omega (arith, some, within, size) }
 
-  -- so many rounds
+  -- that many rounds
   abbrev rounds_of : ℕ → List Bool → List Bool
   rounds_of zero flags = flags
   rounds_of (suc n) flags = rounds_of n (spread_from 0 pool flags)
@@ -131,7 +126,7 @@ module _ (pool : List SlotData) (lower : list_all (names_lower pool) pool ≡ tr
   reach n [] i j flags size within up leads = subst (λ m. IsUp (rounds_of n flags) (m - 1)) leads (rounds_keep n flags (i - 1) up)
   reach zero (k ∷ between) i j flags size within up leads = absurd (omega (arith, within))
   reach (suc n) (k ∷ between) i j flags size within up (names, leads) =
-      let there = slot_of_number i names.0 names.1 in
+      let there = slot_of_number pool i names.0 names.1 in
       let here : i - 1 ≡ 0 + (i - 1) = omega arith in
       let next = round_follows 0 pool flags (i - 1) names.0 k there.1 (subst (IsUp flags) here up) names.2
       (named_flag flags size (i - 1) names.0 k there.1 names.2) in
@@ -154,7 +149,7 @@ module _ (pool : List SlotData) (lower : list_all (names_lower pool) pool ≡ tr
         numbers (place + 1) (subst (Contains numbers) leads there) flag))
     reached place below (i, k ∷ between, there, leads) =
         let names = leads.0 in
-        let at = slot_of_number i names.0 names.1 in
+        let at = slot_of_number pool i names.0 names.1 in
         let some = at.0 in
         let inside = slice_get_within pool (i - 1) names.0 at.1 in
         let flag : HasFlag (replicate (length pool) false) i =
@@ -166,12 +161,6 @@ module _ (pool : List SlotData) (lower : list_all (names_lower pool) pool ≡ tr
         subst (IsUp (rounds_of 3 begun)) back (reach 3 (k ∷ between) i (place + 1) begun length-begun (omega (arith, few, most))
         (marks_here (replicate (length pool) false) numbers i there flag) leads)
 
-    slot_at_place : (place : ℕ) (slot : SlotData) → slice_get pool place ≡ Some slot → slot_at pool (place + 1) ≡ Some slot
-    slot_at_place place slot is =
-        let back : (place + 1) - 1 ≡ place = omega arith in
-        let test : nat_eq (place + 1) 0 ≡ false = ne_eqb (place + 1) 0 (λ e. omega (arith, e)) in
-        rw (test, back) is
-
     closed : (place : ℕ) (slot : SlotData) (more : ℕ) → slice_get pool place ≡ Some slot → Led pool numbers ((0 + place) + 1)
         → Contains (named_by slot) (more + 1) → Led pool numbers (more + 1)
     closed place slot more is (i, between, there, leads) named =
@@ -180,7 +169,7 @@ module _ (pool : List SlotData) (lower : list_all (names_lower pool) pool ≡ tr
           between ++ (more + 1) ∷ [],
           there,
           leads_on pool i between (place + 1) (more + 1) (subst (Leads pool i between) same
-              leads) (slot, slot_at_place place slot is, named),
+              leads) (slot, slot_at-place pool place ∙ is, named),
         )
 
     none_up : (n place : ℕ) → IsUp (replicate n false) place → ⊥
@@ -252,11 +241,6 @@ holes_at false before (Constant tag body ∷ pool) (flag ∷ flags) is size (suc
     go (suc place) (Constant tag' body') = refl
     go (suc place) Hole = refl
 
-slot_some : (pool : List SlotData) (place : ℕ) → place < length pool → (slot : SlotData) × (slice_get pool place ≡ Some slot)
-slot_some [] place below = absurd (omega (arith, below))
-slot_some (slot ∷ pool) zero below = (slot, refl)
-slot_some (slot ∷ pool) (suc place) below = slot_some pool place (omega (arith, below))
-
 -- the first slot is no hole
 pub no_hole : (pool : List SlotData) → IsPoolFrom false pool → slice_get pool 0 ≡ Some Hole → ⊥
 no_hole [] is there = cc
@@ -314,45 +298,6 @@ module _ (c : ClassData) (fits : IsClass c) (found : List FoundSite) (is : found
       exactly : (place : ℕ) → place < length c.pool → (get_or (with_holes false c.pool marked) place false ≡ true) ↔ IsLive c
           (number_of c.pool place)
       exactly place below =
-          let one = slot_some c.pool place below in
+          let one = element_at c.pool place below in
           subst (λ found. (get_or (with_holes false c.pool marked) place false ≡ true) ↔ IsLive c (first_number found place))
           (sym one.1) (slot_live place one.0 below one.1)
-
--- sites that pass the checks were found, and what is named is of a lower rank
-judged_lower : (pool : List SlotData) (found : List FoundSite) (sites : List Site) → judged pool found ≡ Some sites
-    → list_all (names_lower pool) pool ≡ true
-judged_lower pool found sites e = go (list_all (names_constant pool) found) (list_all (names_lower pool) pool) refl e
-  where
-    go : (a b : Bool) → list_all (names_lower pool) pool ≡ b → cond (a && b) (Some (map site_of found)) None ≡ Some sites
-        → list_all (names_lower pool) pool ≡ true
-    go a true is e = is
-    go true false is e = cc
-    go false false is e = cc
-
-pub live_known : (c : ClassData) (found : List FoundSite) (sites : List Site) (flags : List Bool) → IsClass c → found_in c ≡ Some found
-    → sites_of c ≡ Some sites → flags ≡ flags_of c.pool (map (λ f. f.number) found) → TellsLive c flags
-live_known c found sites flags fits is judged_is same =
-    let judged_now : judged c.pool found ≡ Some sites = sym (ap (option_and_then (judged c.pool)) is) ∙ judged_is in
-    subst (TellsLive c) (sym same) (flags_tell c fits found is (judged_lower c.pool found sites judged_now))
-
--- A class by the walk over it
-
-module _ (c : ClassData) (fits : IsClass c) where
-  pub sites_unknown : walk_of c ≡ Err tt → sites_of c ≡ None
-  sites_unknown unknown = ap (option_and_then (judged c.pool)) (found_is c fits ∙ ap found_by unknown)
-
-  module _ (walk : Walk) (walked : walk_of c ≡ Ok walk) where
-    found_walked : found_in c ≡ Some walk.found
-    found_walked = found_is c fits ∙ ap found_by walked
-
-    pub sites_walked : (constants lower : Bool) → list_all (names_constant c.pool) walk.found ≡ constants
-        → list_all (names_lower c.pool) c.pool ≡ lower
-        → sites_of c ≡ (if constants && lower then Some (map site_of walk.found) else None)
-    sites_walked constants lower are is =
-        ap (option_and_then (judged c.pool)) found_walked
-        ∙ ap (λ b. if b && list_all (names_lower c.pool) c.pool then Some (map site_of walk.found) else None) are
-        ∙ ap (λ b. if constants && b then Some (map site_of walk.found) else None) is
-
-    pub live_walked : (flags : List Bool) → list_all (names_lower c.pool) c.pool ≡ true
-        → flags ≡ flags_of c.pool (map (λ f. f.number) walk.found) → TellsLive c flags
-    live_walked flags lower same = subst (TellsLive c) (sym same) (flags_tell c fits walk.found found_walked lower)

@@ -1,12 +1,7 @@
+pub mod ClassSays
 pub mod ComputedLiveLaws
-pub mod ComputedSitesLaws
-pub mod Following
-pub mod Handlers
+pub mod FormSays
 pub mod Loops
 pub mod MarkLaws
 pub mod NamePlaces
-pub mod Over
-pub mod Runs
-pub mod Shrinks
 pub mod Vectors
-pub mod Walking

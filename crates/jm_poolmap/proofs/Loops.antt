@@ -1,65 +1,60 @@
--- One form behind another: what is still to come, and a form that isn't there.
-use Rattle.std.proofs.Common.{◌≡◌, ℕ, zero, suc, ◌+◌, ◌-◌, ◌<◌, ◌≤◌, List, ◌∷◌, get_or, length, map, drop}
-use Rattle.std.proofs.Common.{Result, Ok, Err, IsErrAnd, refl, sym, ap, ◌∙◌, arith, replicate}
-use Rattle.std.proofs.lemmas.List.{at_drop_more, at_drop_all}
+-- Loops over forms: that many of one, and a run up to the last byte; and the error of a part.
+use Rattle.std.proofs.Common.{◌≡◌, ◌≢◌, ℕ, suc, ◌+◌, ◌-◌, ◌<◌, ◌≤◌, ◌⊎◌, inl, inr, List, length}
+use Rattle.std.proofs.Common.{Result, Ok, Err, IsErrAnd, refl, sym, arith}
+use Rattle.std.proofs.lemmas.Bool.{eq-eqb, ne_eqb}
 use Rattle.jm_bytes.specs.declared.faults.Or.{Or}
 use Rattle.jm_bytes.specs.declared.faults.Or.TheVariants.{Fault, Memory}
-use Rattle.jm_class.specs.Readings.{Left, Outcome}
+use Rattle.jm_class.specs.Readings.{Left}
 use Rattle.jm_poolmap.specs.declared.forms.Unknown.{Unknown}
 use Rattle.jm_poolmap.specs.declared.site.FoundSite.{FoundSite}
 use Rattle.jm_poolmap.specs.Finds.{Finds}
-use Rattle.jm_poolmap.specs.Forms.{NoForm, Form, in_order}
+use Rattle.jm_poolmap.specs.Forms.{Texts, Form, Then, Run, times, at_most, reads}
 
--- an error is that of a form that isn't there
-pub none_stop : (Is : Or Unknown → Type 0) (all : Outcome NoForm (List FoundSite)) (result : Result (Unit {0}) (Or Unknown))
-    (new : List FoundSite) (next : Left) → IsErrAnd result Is → all ≡ Err tt → Finds all result new next
-none_stop Is all (Ok v) new next is none = absurd is
-none_stop Is all (Err (Fault unknown)) new next is none = none
-none_stop Is all (Err Memory) new next is none = tt
+-- that many are the next one and those after it
+pub times_more : (form : Form) (count k : ℕ) → k < count → times (count - k) form ≡ Then form (times (count - (k + 1)) form)
+times_more form count k more = let number : count - k ≡ suc (count - (k + 1)) = omega arith in rw number
 
 -- the error of a part is that of the whole, where the whole isn't there without it
-pub finds_stop : (part all : Outcome NoForm (List FoundSite)) (error : Or Unknown) (result : Result (Unit {0}) (Or Unknown))
-    (found new : List FoundSite) (left next : Left) → IsErrAnd result (λ is. is ≡ error) → Finds {T = Unit {0}} part (Err error) found left
-    → (part ≡ Err tt → all ≡ Err tt) → Finds all result new next
-finds_stop part all error (Ok v) found new left next is gives stops = absurd is
-finds_stop part all (Fault one) (Err (Fault other)) found new left next is gives stops = stops gives
-finds_stop part all (Fault one) (Err Memory) found new left next is gives stops = tt
-finds_stop part all Memory (Err Memory) found new left next is gives stops = tt
-finds_stop part all Memory (Err (Fault other)) found new left next is gives stops = cc
+pub finds_stop : (texts : Texts) (part whole : Form) (error : Or Unknown) (result : Result (Unit {0}) (Or Unknown))
+    (old found new : List FoundSite) (before left next : Left) → IsErrAnd result (λ is. is ≡ error)
+    → Finds {T = Unit {0}} texts part found left (Err error) new next
+    → (reads texts part found left ≡ Err tt → reads texts whole old before ≡ Err tt) → Finds texts whole old before result new next
+finds_stop texts part whole error (Ok v) old found new before left next is gives stops = absurd is
+finds_stop texts part whole (Fault one) (Err (Fault other)) old found new before left next is gives stops = stops gives
+finds_stop texts part whole (Fault one) (Err Memory) old found new before left next is gives stops = tt
+finds_stop texts part whole Memory (Err Memory) old found new before left next is gives stops = tt
+finds_stop texts part whole Memory (Err (Fault other)) old found new before left next is gives stops = cc
 
--- forms of the items of a list, from one on
-module _ {A : Type 0} (form : A → Form) (xs : List A) (i : ℕ) where
-  abbrev pub rest : List A → Form
-  rest ys = in_order (map form ys)
+-- of a run, at most that many items are still to come, and they are read as the rest of the run
+pub record ToCome (texts : Texts) (item : ℕ → Form) (start : ℕ) (old : List FoundSite) (before : Left) (most : ℕ)
+    (found : List FoundSite) (left : Left) : Type 0 where
+  pub same : at_most most (λ found now. reads texts (item (now.place - start)) found now) found left ≡ reads texts (Run item) old before
 
-  pub items_next : (item : A) (found new : List FoundSite) (left next : Left) → i < length xs → item ≡ get_or xs i item
-      → form item found left ≡ Ok (new, next) → rest (drop i xs) found left ≡ rest (drop (i + 1) xs) new next
-  items_next item found new left next more is e =
-      ap (λ (f : Form). f found left) (at_drop_more rest xs i item more ∙ ap (λ x. rest (x ∷ drop (i + 1) xs)) (sym is)) ∙ rw e refl
+pub run_begins : {texts : Texts} {item : ℕ → Form} {start : ℕ} {found : List FoundSite} {left : Left} (most : ℕ)
+    → start ≡ left.place → most ≡ length left.bytes → ToCome texts item start found left (most - 0) found left
+run_begins {left = left} most here size =
+    let whole : most - 0 ≡ length left.bytes = omega (arith, size) in
+    record { same = rw (whole, here) refl }
 
-  pub items_stop : (item : A) (found : List FoundSite) (left : Left) → i < length xs → item ≡ get_or xs i item → form item found left
-      ≡ Err tt → rest (drop i xs) found left ≡ Err tt
-  items_stop item found left more is e =
-      ap (λ (f : Form). f found left) (at_drop_more rest xs i item more ∙ ap (λ x. rest (x ∷ drop (i + 1) xs)) (sym is)) ∙ rw e refl
+module _ {texts : Texts} {item : ℕ → Form} {start : ℕ} {old found : List FoundSite} {before left : Left} (most k : ℕ)
+    (come : ToCome texts item start old before (most - k) found left) where
+  module _ (below : k < most) (some : length left.bytes ≢ 0) where
+    pub run_next : {new : List FoundSite} {next : Left} → reads texts (item (left.place - start)) found left ≡ Ok (new, next)
+        → ToCome texts item start old before (most - (k + 1)) new next
+    run_next e =
+        let number : most - k ≡ suc (most - (k + 1)) = omega arith in
+        let test = ne_eqb (length left.bytes) 0 some in
+        record { same = rw (number, test, e) at come.same }
 
-  pub items_end : (found : List FoundSite) (left : Left) → length xs ≤ i → rest (drop i xs) found left ≡ Ok (found, left)
-  items_end found left end = ap (λ (f : Form). f found left) (at_drop_all rest xs i end)
+    pub run_stops : reads texts (item (left.place - start)) found left ≡ Err tt → reads texts (Run item) old before ≡ Err tt
+    run_stops e =
+        let number : most - k ≡ suc (most - (k + 1)) = omega arith in
+        let test = ne_eqb (length left.bytes) 0 some in
+        sym (rw (number, test, e) at come.same)
 
--- so many of one form
-module _ (form : Form) (count k : ℕ) where
-  pub times_next : (found new : List FoundSite) (left next : Left) → k < count → form found left ≡ Ok (new, next)
-      → in_order (replicate (count - k) form) found left ≡ in_order (replicate (count - (k + 1)) form) new next
-  times_next found new left next more e =
-      let number : count - k ≡ suc (count - (k + 1)) = omega arith in
-      rw (number, e) refl
-
-  pub times_stop : (found : List FoundSite) (left : Left) → k < count → form found left ≡ Err tt → in_order (replicate (count - k) form)
-      found left ≡ Err tt
-  times_stop found left more e =
-      let number : count - k ≡ suc (count - (k + 1)) = omega arith in
-      rw (number, e) refl
-
-  pub times_end : (found : List FoundSite) (left : Left) → k ≡ count → in_order (replicate (count - k) form) found left ≡ Ok (found, left)
-  times_end found left all =
-      let number : count - k ≡ zero = omega (arith, all) in
-      rw number refl
+  pub run_ends : (k < most) × (length left.bytes ≡ 0) ⊎ (most ≤ k) → reads texts (Run item) old before ≡ Ok (found, left)
+  run_ends (inl (below, none)) =
+      let number : most - k ≡ suc (most - (k + 1)) = omega arith in
+      let test = eq-eqb (length left.bytes) 0 none in
+      sym (rw (number, test) at come.same)
+  run_ends (inr past) = let number : most - k ≡ 0 = omega arith in sym (rw number at come.same)

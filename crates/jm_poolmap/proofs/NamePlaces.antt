@@ -16,7 +16,8 @@ OfEach P [] = Unit {0}
 OfEach P (x ∷ xs) = P x × OfEach P xs
 
 -- what holds of no row and of each row of a table holds of the row of each byte
-row_is : {A : Type 0} (P : Option A → Type 0) (rows : Rows A) (byte : ℕ) → P None → OfEach (λ row. P (Some row.1)) rows → P (row_of rows byte)
+row_is : {A : Type 0} (P : Option A → Type 0) (rows : Rows A) (byte : ℕ) → P None → OfEach (λ row. P (Some row.1)) rows
+    → P (row_of rows byte)
 row_is P [] byte none each = none
 row_is P (row ∷ rows) byte none each = go (list_any (is_in byte) row.0) (row_is P rows byte none each.1)
   where
@@ -70,7 +71,7 @@ all_items (suc n) (x ∷ xs) e = ap (λ t. x ∷ t) (all_items n xs (omega (arit
 -- what holds of the five shapes of bodies holds of each that fits its tag: it names none, or others at these places
 module _ (P : List ℕ → List ℕ → Type 0) (free : (body : List ℕ) → P [] body) (one : (a b : ℕ) → P (0 ∷ []) (a ∷ b ∷ []))
     (two : (a b c d : ℕ) → P (0 ∷ 2 ∷ []) (a ∷ b ∷ c ∷ d ∷ [])) (second : (a b c d : ℕ) → P (2 ∷ []) (a ∷ b ∷ c ∷ d ∷ []))
-    (behind : (a b c : ℕ) → P (1 ∷ []) (a ∷ b ∷ c ∷ [])) (tag : ℕ) (body : List ℕ) where
+    (third : (a b c : ℕ) → P (1 ∷ []) (a ∷ b ∷ c ∷ [])) (tag : ℕ) (body : List ℕ) where
   -- of a tag with a size
   abbrev Sized : ℕ → Type 0
   Sized t = body_size t ≡ Some (length body) → P (name_places t) body
@@ -108,7 +109,7 @@ module _ (P : List ℕ → List ℕ → Type 0) (free : (body : List ℕ) → P 
             (of_two, (of_two, (of_two, (of_second, (of_second, tt))))),
           ) fits
       go false e3 false e5 false e7 false e9 true e15 e =
-          among Sized tag (15 ∷ []) e15 (of_size 3 (1 ∷ []) (behind _ _ _), tt) fits
+          among Sized tag (15 ∷ []) e15 (of_size 3 (1 ∷ []) (third _ _ _), tt) fits
       go false e3 false e5 false e7 false e9 false e15 e = cc
 
 -- The numbers at the sites of a body
@@ -130,7 +131,8 @@ name_fits tag body fits sites are = subst Within (sym are) (by_shape (λ places 
     Within : List Site → Type 0
     Within sites = (i : ℕ) (site : Site) → i < length sites → (get_or sites i site).place + 2 ≤ length body
 
-    at_first : (place size : ℕ) → place + 2 ≤ size → (i : ℕ) (site : Site) → i < 1 → (get_or (sites_at (place ∷ [])) i site).place + 2 ≤ size
+    at_first : (place size : ℕ) → place + 2 ≤ size → (i : ℕ) (site : Site) → i < 1
+        → (get_or (sites_at (place ∷ [])) i site).place + 2 ≤ size
     at_first place size within zero site more = within
     at_first place size within (suc i) site more = absurd (omega (arith, more))
 

@@ -11,7 +11,7 @@ use Rattle.jm_class.proofs.Vectors as vectors
 use Rattle.jm_poolmap.specs.declared.site.Site.{Site}
 use Rattle.jm_poolmap.specs.Attributes.{body, class_rows, method_rows, code_rows, named}
 use Rattle.jm_poolmap.specs.ComputedLive.{flags_of}
-use Rattle.jm_poolmap.specs.Forms.{Form, unfit, nowhere, form_if}
+use Rattle.jm_poolmap.specs.Forms.{Form, Never, unfit, form_if, reads}
 use Rattle.jm_poolmap.specs.Frames.{frame}
 use Rattle.jm_poolmap.specs.Instructions.{instructions}
 use Rattle.jm_poolmap.specs.Sites.{met, found_in, sites_of}
@@ -102,36 +102,36 @@ not-listed = refl
 -- the places, the widths, the marks and the numbers that some bytes have
 abbrev told : Form → List ℕ → Option (List (ℕ × Bool × Bool × ℕ))
 told form bytes = option_map (map (λ f. (f.place, f.wide, f.optional, f.number)))
-    (met (ended unfit (form []) (record { place = 0; bytes = bytes })))
+    (met (ended unfit (reads (λ n. None) form []) (record { place = 0; bytes = bytes })))
 
-inner-classes : told (form_if (body nowhere) (named class_rows (codes "InnerClasses"))) (u2 1 ++ u2 7 ++ u2 0 ++ u2 8 ++ u2 9)
+inner-classes : told (form_if (body Never) (named class_rows (codes "InnerClasses"))) (u2 1 ++ u2 7 ++ u2 0 ++ u2 8 ++ u2 9)
     ≡ Some ((2, true, false, 7) ∷ (4, true, true, 0) ∷ (6, true, true, 8) ∷ [])
 inner-classes = refl
 
-bootstrap-methods : told (form_if (body nowhere) (named class_rows (codes "BootstrapMethods"))) (u2 2 ++ u2 7 ++ u2 1 ++ u2 8
+bootstrap-methods : told (form_if (body Never) (named class_rows (codes "BootstrapMethods"))) (u2 2 ++ u2 7 ++ u2 1 ++ u2 8
     ++ u2 9 ++ u2 0) ≡ Some ((2, true, false, 7) ∷ (6, true, false, 8) ∷ (8, true, false, 9) ∷ [])
 bootstrap-methods = refl
 
-parameters : told (form_if (body nowhere) (named method_rows (codes "MethodParameters"))) (1 ∷ u2 7 ++ u2 0)
+parameters : told (form_if (body Never) (named method_rows (codes "MethodParameters"))) (1 ∷ u2 7 ++ u2 0)
     ≡ Some ((1, true, true, 7) ∷ [])
 parameters = refl
 
-variables : told (form_if (body nowhere) (named code_rows (codes "LocalVariableTable"))) (u2 1 ++ replicate 4 0 ++ u2 7 ++ u2 8
+variables : told (form_if (body Never) (named code_rows (codes "LocalVariableTable"))) (u2 1 ++ replicate 4 0 ++ u2 7 ++ u2 8
     ++ u2 0) ≡ Some ((6, true, false, 7) ∷ (8, true, false, 8) ∷ [])
 variables = refl
 
 -- a byte too much, a row too few, and a count of rows that can't be there
-body-rest : told (form_if (body nowhere) (named class_rows (codes "SourceFile"))) (u2 7 ++ 0 ∷ []) ≡ None
+body-rest : told (form_if (body Never) (named class_rows (codes "SourceFile"))) (u2 7 ++ 0 ∷ []) ≡ None
 body-rest = refl
 
-body-short : told (form_if (body nowhere) (named class_rows (codes "NestMembers"))) (u2 2 ++ u2 7) ≡ None
+body-short : told (form_if (body Never) (named class_rows (codes "NestMembers"))) (u2 2 ++ u2 7) ≡ None
 body-short = refl
 
-body-many : told (form_if (body nowhere) (named class_rows (codes "NestMembers"))) (u2 65535) ≡ None
+body-many : told (form_if (body Never) (named class_rows (codes "NestMembers"))) (u2 65535) ≡ None
 body-many = refl
 
 -- Frames: of each form one, the last one with two lists of types
-frames : told (form_if (body nowhere) (named code_rows (codes "StackMapTable")))
+frames : told (form_if (body Never) (named code_rows (codes "StackMapTable")))
     (u2 7 ++ 63 ∷ 64 ∷ 7 ∷ u2 5 ++ 247 ∷ u2 0 ++ 8 ∷ u2 9 ++ 251 ∷ u2 0 ++ 253 ∷ u2 0 ++ 1 ∷ 7 ∷ u2 6 ++ 254 ∷ u2 0 ++ 0 ∷ 1 ∷ 2
     ∷ 255 ∷ u2 0 ++ u2 1 ++ 7 ∷ u2 7 ++ u2 2 ++ 3 ∷ 7 ∷ u2 8)
     ≡ Some ((5, true, false, 5) ∷ (21, true, false, 6) ∷ (35, true, false, 7) ∷ (41, true, false, 8) ∷ [])
@@ -150,7 +150,7 @@ simple-code : told instructions (18 ∷ 5 ∷ 20 ∷ u2 6 ++ 185 ∷ u2 7 ++ 1 �
     ∷ (11, true, false, 8) ∷ [])
 simple-code = refl
 
--- two bytes of filling, from 0 to 1, and a number behind it
+-- two bytes of filling, from 0 to 1, and a number after it
 table-switch : told instructions (0 ∷ 170 ∷ 9 ∷ 9 ∷ replicate 4 0 ++ replicate 4 0 ++ 0 ∷ 0 ∷ 0 ∷ 1 ∷ replicate 8 0 ++ 18 ∷ 5 ∷ [])
     ≡ Some ((25, false, false, 5) ∷ [])
 table-switch = refl

@@ -1,16 +1,14 @@
 -- The instructions of a code, by their opcodes (JVMS 6.5).
-use Rattle.std.specs.Prelude.{ℕ, ◌+◌, ◌-◌, ◌*◌, ◌%◌, ◌^◌, nat_le, nat_lt, List, [], ◌∷◌, Err}
+use Rattle.std.specs.Prelude.{ℕ, ◌+◌, ◌-◌, ◌*◌, ◌%◌, ◌^◌, nat_le, nat_lt, List, [], ◌∷◌}
 use Rattle.std.specs.Prelude.{if◌then◌else◌}
-use Rattle.std.specs.Int.{w32}
-use Rattle.jm_class.specs.Readings.{Reading, and_then, part, number}
+use Rattle.jm_class.specs.Layouts.{U4}
 use Rattle.jm_poolmap.specs.declared.forms.Item.{Item}
 use Rattle.jm_poolmap.specs.declared.forms.Item.TheVariants.{Bytes, Site, ByteSite}
-use Rattle.jm_poolmap.specs.Forms.{Form, NoForm, Rows, unfit, without, skip, in_order, run}
-use Rattle.jm_poolmap.specs.Forms.{by_byte, one}
+use Rattle.jm_poolmap.specs.Forms.{Form, Never, Skip, Told, Run, Rows, in_order, by_byte, one}
 use Rattle.jm_poolmap.specs.Items.{items}
 
 -- what follows an opcode: some items, the cases of a tableswitch or of a lookupswitch, or an opcode
--- behind a `wide`
+-- after a `wide`
 pub data Operands : Type 0 where
   Items : (items : List Item) → Operands
   Table : Operands
@@ -33,51 +31,49 @@ instruction_rows =
     ∷ ((0, 201) ∷ [], Items [])
     ∷ []
 
--- what follows an opcode behind 196, which is `wide`
+-- what follows an opcode after 196, which is `wide`
 abbrev pub wide_rows : Rows (List Item)
 wide_rows =
     ((21, 25) ∷ (54, 58) ∷ one 169 ∷ [], Bytes 2 ∷ [])
     ∷ (one 132 ∷ [], Bytes 4 ∷ [])
     ∷ []
 
--- bytes up to a multiple of four from a place
-abbrev pub filling : ℕ → Reading NoForm (List ℕ)
-filling start left = part unfit ((4 - (left.place - start) % 4) % 4) left
+-- how many bytes fill up what follows an opcode to a multiple of four, by how many bytes of the
+-- code stand before the opcode
+abbrev pub filling : ℕ → ℕ
+filling before = 3 - before % 4
 
 -- how far a number of four bytes, read as a signed one, is above the least of these
 abbrev pub from_least : ℕ → ℕ
 from_least n = if nat_lt n (2 ^ 31) then n + 2 ^ 31 else n - 2 ^ 31
 
 -- a word for each number from the lowest case to the highest, which isn't lower
-abbrev pub words : ℕ → ℕ → Reading NoForm (List ℕ)
-words low high left =
-    if nat_le low high then part unfit (4 * (high - low + 1)) left else Err tt
+abbrev pub words : ℕ → ℕ → Form
+words low high = if nat_le low high then Skip (4 * (high - low + 1)) else Never
 
 -- the cases of a tableswitch: the lowest and the highest, and a word for each between them
-abbrev pub table_cases : Reading NoForm (List ℕ)
-table_cases =
-    and_then (number unfit w32)
-    (λ low. and_then (number unfit w32) (λ high. words (from_least low) (from_least high)))
+abbrev pub table_cases : Form
+table_cases = Told U4 (λ low. Told U4 (λ high. words (from_least low) (from_least high)))
 
 -- two words for each case; their count isn't negative
-abbrev pub pairs : ℕ → Reading NoForm (List ℕ)
-pairs count left = if nat_lt count (2 ^ 31) then part unfit (8 * count) left else Err tt
+abbrev pub pairs : ℕ → Form
+pairs count = if nat_lt count (2 ^ 31) then Skip (8 * count) else Never
 
 -- the cases of a lookupswitch: their count, and two words for each
-abbrev pub lookup_cases : Reading NoForm (List ℕ)
-lookup_cases = and_then (number unfit w32) pairs
+abbrev pub lookup_cases : Form
+lookup_cases = Told U4 pairs
 
--- what follows an opcode, in a code that begins at a place
+-- what follows an opcode, by how many bytes of the code stand before it
 abbrev pub operands : ℕ → Operands → Form
-operands start (Items list) = items list
-operands start Table = in_order (without (filling start) ∷ skip 4 ∷ without table_cases ∷ [])
-operands start Lookup = in_order (without (filling start) ∷ skip 4 ∷ without lookup_cases ∷ [])
-operands start Wide = by_byte wide_rows items
+operands before (Items list) = items list
+operands before Table = in_order (Skip (filling before) ∷ Skip 4 ∷ table_cases ∷ [])
+operands before Lookup = in_order (Skip (filling before) ∷ Skip 4 ∷ lookup_cases ∷ [])
+operands before Wide = by_byte wide_rows items
 
--- an instruction, in a code that begins at a place
+-- an instruction, by how many bytes of the code stand before it
 abbrev pub instruction : ℕ → Form
-instruction start = by_byte instruction_rows (operands start)
+instruction before = by_byte instruction_rows (operands before)
 
--- the instructions of a code, from its start on
+-- the instructions of a code
 abbrev pub instructions : Form
-instructions found left = run (instruction left.place) found left
+instructions = Run instruction

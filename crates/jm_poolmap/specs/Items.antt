@@ -1,16 +1,17 @@
--- Items of which the length is known, and the types of frames, which consist of them (JVMS 4.7.4).
-use Rattle.std.specs.Prelude.{List, map}
+-- Items of which the length is known.
+use Rattle.std.specs.Prelude.{List, map, false}
 use Rattle.jm_poolmap.specs.declared.forms.Item.{Item}
 use Rattle.jm_poolmap.specs.declared.forms.Item.TheVariants.{Bytes, Site, OptionalSite, ByteSite}
-use Rattle.jm_poolmap.specs.Forms.{Form, skip, site, optional_site, byte_site, in_order}
+use Rattle.jm_poolmap.specs.Forms as form
+use Rattle.jm_poolmap.specs.Forms.{Form, Skip, site, optional_site, in_order}
 
 -- that many bytes, or a site, as a form
 abbrev pub item_form : Item → Form
-item_form (Bytes n) = skip n
+item_form (Bytes n) = Skip n
 item_form Site = site
 item_form OptionalSite = optional_site
-item_form ByteSite = byte_site
+item_form ByteSite = form.Site false false
 
--- items one behind another
+-- items one after the other
 abbrev pub items : List Item → Form
 items list = in_order (map item_form list)

@@ -1,6 +1,5 @@
 pub mod Attributes
 pub mod ComputedLive
-pub mod ComputedSites
 pub mod Finds
 pub mod Forms
 pub mod Frames

@@ -1,46 +1,54 @@
 -- The sites of a class: the places in its text where numbers of constants stand (JVMS 4; that a
 -- class with an unknown attribute has none is this project's rule).
-use Rattle.std.specs.Prelude.{ℕ, nat_lt, Bool, true, false, ◌==◌, ◌&&◌, ◌||◌, List, [], ◌∷◌, length}
-use Rattle.std.specs.Prelude.{map}
+use Rattle.std.specs.Prelude.{ℕ, ◌+◌, nat_lt, Bool, true, false, ◌==◌, ◌&&◌, ◌||◌}
+use Rattle.std.specs.Prelude.{List, [], ◌∷◌, length, map}
 use Rattle.std.specs.Prelude.{Option, Some, None, is_some, Ok, Err, take, drop, if◌then◌else◌}
 use Rattle.std.specs.Prelude.{option_and_then, unwrap_or}
 use Rattle.std.specs.Int.{w16, from_be_bytes}
 use Rattle.std.specs.List.{list_all}
 use Rattle.jm_class.specs.Classes.{SlotData, Constant, Hole, ClassData, pool_text, class_text}
-use Rattle.jm_class.specs.Classes.{slot_at}
+use Rattle.jm_class.specs.Classes.{slot_at, utf8_at}
+use Rattle.jm_class.specs.Layouts.{U2}
 use Rattle.jm_class.specs.Readings.{Outcome, ended}
 use Rattle.jm_poolmap.specs.declared.forms.Place as place
 use Rattle.jm_poolmap.specs.declared.forms.Place.TheVariants.{Class, Field, Method}
 use Rattle.jm_poolmap.specs.declared.site.FoundSite.{FoundSite}
 use Rattle.jm_poolmap.specs.declared.site.Site.{Site}
-use Rattle.jm_poolmap.specs.Forms.{Form, NoForm, unfit, skip, site, optional_site, in_order}
-use Rattle.jm_poolmap.specs.Forms.{counted, Rows, one, row_of}
+use Rattle.jm_poolmap.specs.Forms.{Form, NoForm, Skip, unfit, site, optional_site, in_order}
+use Rattle.jm_poolmap.specs.Forms.{counted, reads, Rows, one, row_of}
 use Rattle.jm_poolmap.specs.Attributes.{attribute}
 
 -- A class as a form
 
 -- a field or a method: its flags, name and descriptor, and its attributes
-abbrev pub member : place.Place → List SlotData → Form
-member place pool =
-    in_order (skip 2 ∷ site ∷ site ∷ counted w16 (attribute place pool) ∷ [])
+abbrev pub member : place.Place → Form
+member place = in_order (Skip 2 ∷ site ∷ site ∷ counted U2 (attribute place) ∷ [])
 
--- a class: magic and versions, the constants, the flags, the class and the one above, the
--- interfaces, the fields, the methods, the attributes
-abbrev pub class : List SlotData → Form
-class pool = in_order (
-    skip 8 ∷ skip (length (pool_text pool)) ∷ skip 2 ∷ site ∷ optional_site
-    ∷ counted w16 site
-    ∷ counted w16 (member Field pool) ∷ counted w16 (member Method pool)
-    ∷ counted w16 (attribute Class pool) ∷ [])
+-- a class from the end of its pool on: the flags, this class and its superclass, the interfaces, the
+-- fields, the methods, the attributes
+abbrev pub class : Form
+class = in_order (
+    Skip 2 ∷ site ∷ optional_site ∷ counted U2 site ∷ counted U2 (member Field)
+    ∷ counted U2 (member Method) ∷ counted U2 (attribute Class) ∷ [])
 
--- the sites that a form met, where it takes all bytes; else none
+-- how many bytes of a class stand up to the end of its pool: magic and versions, and the pool
+abbrev pub pool_end : ClassData → ℕ
+pool_end c = 8 + length (pool_text c.pool)
+
+-- what stands after the pool
+abbrev pub back : ClassData → List ℕ
+back c = drop (pool_end c) (class_text c)
+
+-- the sites that were met, where all bytes were taken; else none
 abbrev pub met : Outcome NoForm (List FoundSite) → Option (List FoundSite)
 met (Ok r) = Some r.0
 met (Err fault) = None
 
 -- the sites in the text of a class with their numbers, or none where the class isn't of the form
 abbrev pub found_in : ClassData → Option (List FoundSite)
-found_in c = met (ended unfit (class c.pool []) (record { place = 0; bytes = class_text c }))
+found_in c =
+    met (ended unfit (reads (utf8_at c.pool) class [])
+    (record { place = pool_end c; bytes = back c }))
 
 -- Constants
 

@@ -1,7 +1,6 @@
-ghost use Rattle.std.specs.Prelude.{replicate};
 ghost use Rattle.jm_poolmap.specs.Attributes.{bootstrap_method, body};
 ghost use Rattle.jm_poolmap.specs.Finds.{Finds};
-ghost use Rattle.jm_poolmap.specs.Forms.{nowhere, in_order};
+ghost use Rattle.jm_poolmap.specs.Forms.{Texts, Never, times};
 ghost use Rattle.jm_poolmap.specs.Views.{content_of};
 
 use crate::forms::{Content, Item, Unknown};
@@ -12,9 +11,10 @@ use crate::site::FoundSite;
 use jm_bytes::{List, Or};
 use jm_class::Cursor;
 
-/// So many bootstrap methods, each with its arguments.
+/// That many bootstrap methods, each with its arguments.
 fn methods(found: &mut List<FoundSite>, cursor: &mut Cursor, count: u16) -> Result<(), Or<Unknown>>
-    ensures { Finds (in_order (replicate count bootstrap_method) found.old cursor.old)
+    ensures { (texts : Texts)
+        → Finds texts (times count bootstrap_method) found.old cursor.old
         result found.new cursor.new }
 {
     for _k in 0..count {
@@ -31,7 +31,8 @@ pub fn body(
     cursor: &mut Cursor,
     content: Content,
 ) -> Result<(), Or<Unknown>>
-    ensures { Finds (body nowhere (content_of content) found.old cursor.old)
+    ensures { (texts : Texts)
+        → Finds texts (body Never (content_of content)) found.old cursor.old
         result found.new cursor.new }
 {
     match content {

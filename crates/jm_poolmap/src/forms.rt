@@ -27,7 +27,7 @@ pub enum Place {
 /// A part of which the length is known.
 #[derive(Clone, Copy)]
 pub enum Item {
-    /// So many bytes without a site.
+    /// That many bytes without a site.
     Bytes(u8),
     /// A site of two bytes.
     Site,
@@ -44,13 +44,13 @@ pub enum Content {
     Any,
     /// These items.
     Items(&'static [Item]),
-    /// A count of one byte, and so many rows of these items.
+    /// A count of one byte, and that many rows of these items.
     ShortRows(&'static [Item]),
-    /// A count of two bytes, and so many rows of these items.
+    /// A count of two bytes, and that many rows of these items.
     Rows(&'static [Item]),
-    /// A count of two bytes, and so many bootstrap methods.
+    /// A count of two bytes, and that many bootstrap methods.
     Methods,
-    /// A count of two bytes, and so many frames.
+    /// A count of two bytes, and that many frames.
     Frames,
     /// The parts of a Code.
     Code,
@@ -63,7 +63,7 @@ pub enum FramePart {
     Distance,
     /// A type.
     OneType,
-    /// A count of two bytes, and so many types.
+    /// A count of two bytes, and that many types.
     Types,
 }
 

@@ -1,8 +1,8 @@
-ghost use Rattle.std.specs.Prelude.{◌≡◌, option_map, replicate};
+ghost use Rattle.std.specs.Prelude.{◌≡◌, option_map};
 ghost use Rattle.jm_poolmap.specs.Finds.{Finds};
-ghost use Rattle.jm_poolmap.specs.Forms.{in_order, row_of};
+ghost use Rattle.jm_poolmap.specs.Forms.{Texts, row_of, times};
 ghost use Rattle.jm_poolmap.specs.Frames.{type_rows, type, frame_rows, frame_part};
-ghost use Rattle.jm_poolmap.specs.Frames.{frame};
+ghost use Rattle.jm_poolmap.specs.Frames.{frame_parts, frame};
 
 use crate::forms::{FramePart, Item, Unknown};
 use crate::items::items;
@@ -46,7 +46,8 @@ fn frame_row(byte: u8) -> Option<&'static [FramePart]>
 
 /// A type of a frame.
 fn one_type(found: &mut List<FoundSite>, cursor: &mut Cursor) -> Result<(), Or<Unknown>>
-    ensures { Finds (type found.old cursor.old) result found.new cursor.new }
+    ensures { (texts : Texts)
+        → Finds texts type found.old cursor.old result found.new cursor.new }
 {
     let byte = number8(cursor)?;
     let row = type_row(byte).ok_or(Unknown)?;
@@ -59,7 +60,8 @@ fn frame_part(
     cursor: &mut Cursor,
     kind: FramePart,
 ) -> Result<(), Or<Unknown>>
-    ensures { Finds (frame_part kind found.old cursor.old) result found.new cursor.new }
+    ensures { (texts : Texts)
+        → Finds texts (frame_part kind) found.old cursor.old result found.new cursor.new }
 {
     match kind {
         FramePart::Distance => {
@@ -77,26 +79,39 @@ fn frame_part(
     }
 }
 
-/// A frame.
-fn frame(found: &mut List<FoundSite>, cursor: &mut Cursor) -> Result<(), Or<Unknown>>
-    ensures { Finds (frame found.old cursor.old) result found.new cursor.new }
+/// Parts of a frame one after the other.
+fn frame_parts(
+    found: &mut List<FoundSite>,
+    cursor: &mut Cursor,
+    parts: &[FramePart],
+) -> Result<(), Or<Unknown>>
+    ensures { (texts : Texts)
+        → Finds texts (frame_parts parts.now) found.old cursor.old result found.new cursor.new }
 {
-    let byte = number8(cursor)?;
-    let row = frame_row(byte).ok_or(Unknown)?;
-    for kind in row {
+    for kind in parts {
         frame_part(found, cursor, *kind)?;
     }
     Ok(())
 }
 
-/// So many frames.
+/// A frame.
+fn frame(found: &mut List<FoundSite>, cursor: &mut Cursor) -> Result<(), Or<Unknown>>
+    ensures { (texts : Texts)
+        → Finds texts frame found.old cursor.old result found.new cursor.new }
+{
+    let byte = number8(cursor)?;
+    let parts = frame_row(byte).ok_or(Unknown)?;
+    frame_parts(found, cursor, parts)
+}
+
+/// That many frames.
 pub fn frames(
     found: &mut List<FoundSite>,
     cursor: &mut Cursor,
     count: u16,
 ) -> Result<(), Or<Unknown>>
-    ensures { Finds (in_order (replicate count frame) found.old cursor.old)
-        result found.new cursor.new }
+    ensures { (texts : Texts)
+        → Finds texts (times count frame) found.old cursor.old result found.new cursor.new }
 {
     for _k in 0..count {
         frame(found, cursor)?;

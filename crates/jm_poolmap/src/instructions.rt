@@ -1,9 +1,8 @@
-ghost use Rattle.std.specs.Prelude.{◌≡◌, option_map};
-ghost use Rattle.jm_poolmap.specs.Finds.{Finds, Reads};
-ghost use Rattle.jm_poolmap.specs.Forms.{row_of};
-ghost use Rattle.jm_poolmap.specs.Instructions.{instruction_rows, wide_rows, filling, from_least};
-ghost use Rattle.jm_poolmap.specs.Instructions.{instruction};
-ghost use Rattle.jm_poolmap.specs.Instructions.{instructions};
+ghost use Rattle.std.specs.Prelude.{◌≡◌, ◌-◌, option_map};
+ghost use Rattle.jm_poolmap.specs.Finds.{Finds};
+ghost use Rattle.jm_poolmap.specs.Forms.{Texts, row_of};
+ghost use Rattle.jm_poolmap.specs.Instructions.{instruction_rows, wide_rows, from_least};
+ghost use Rattle.jm_poolmap.specs.Instructions.{operands, instruction, instructions};
 ghost use Rattle.jm_poolmap.specs.Views.{operands_of};
 
 use crate::forms::{Item, Operands, Unknown};
@@ -33,7 +32,7 @@ fn instruction_row(opcode: u8) -> Option<Operands>
     }
 }
 
-/// What follows the opcode behind a `wide`.
+/// What follows the opcode after a `wide`.
 fn wide_row(opcode: u8) -> Option<&'static [Item]>
     ensures { option_map (λ row. row.now) result ≡ row_of wide_rows opcode }
 {
@@ -42,14 +41,6 @@ fn wide_row(opcode: u8) -> Option<&'static [Item]>
         132 => Some(&[Item::Bytes(4)]),
         _ => None,
     }
-}
-
-/// The bytes up to a multiple of four from the start of the code.
-fn filling<'a>(cursor: &mut Cursor<'a>, start: usize) -> Result<&'a [u8], Unknown>
-    ensures { Reads (λ p. p.now) (filling start cursor.old) result cursor.new }
-{
-    let size = (4 - cursor.place().saturating_sub(start) % 4) % 4;
-    part(cursor, size)
 }
 
 /// A signed number by its place in the order of all of them.
@@ -63,19 +54,21 @@ fn from_least(n: u32) -> u32
     }
 }
 
-/// An instruction of a code that begins at a place.
-fn instruction(
+/// What follows an opcode, by how many bytes of the code stand before it.
+fn operands(
     found: &mut List<FoundSite>,
     cursor: &mut Cursor,
-    start: usize,
+    before: usize,
+    kind: Operands,
 ) -> Result<(), Or<Unknown>>
-    ensures { Finds (instruction start found.old cursor.old) result found.new cursor.new }
+    ensures { (texts : Texts)
+        → Finds texts (operands before (operands_of kind)) found.old cursor.old
+        result found.new cursor.new }
 {
-    let opcode = number8(cursor)?;
-    match instruction_row(opcode).ok_or(Unknown)? {
+    match kind {
         Operands::Items(list) => items(found, cursor, list),
         Operands::Table => {
-            filling(cursor, start)?;
+            part(cursor, 3 - before % 4)?;
             part(cursor, 4)?;
             let low = from_least(number32(cursor)?);
             let high = from_least(number32(cursor)?);
@@ -86,7 +79,7 @@ fn instruction(
             Ok(())
         }
         Operands::Lookup => {
-            filling(cursor, start)?;
+            part(cursor, 3 - before % 4)?;
             part(cursor, 4)?;
             let count = number32(cursor)?;
             if count >= 1 << 31 {
@@ -103,12 +96,33 @@ fn instruction(
     }
 }
 
-/// The instructions of a code, from its start on.
+/// An instruction of a code that begins at a place.
+fn instruction(
+    found: &mut List<FoundSite>,
+    cursor: &mut Cursor,
+    start: usize,
+) -> Result<(), Or<Unknown>>
+    ensures { (texts : Texts)
+        → Finds texts (instruction (cursor.old.place - start)) found.old cursor.old
+        result found.new cursor.new }
+{
+    let before = cursor.place().saturating_sub(start);
+    let opcode = number8(cursor)?;
+    let kind = instruction_row(opcode).ok_or(Unknown)?;
+    operands(found, cursor, before, kind)
+}
+
+/// The instructions of a code; each has a byte, so there are at most as many as bytes.
 pub fn instructions(found: &mut List<FoundSite>, cursor: &mut Cursor) -> Result<(), Or<Unknown>>
-    ensures { Finds (instructions found.old cursor.old) result found.new cursor.new }
+    ensures { (texts : Texts)
+        → Finds texts instructions found.old cursor.old result found.new cursor.new }
 {
     let start = cursor.place();
-    while cursor.len() != 0 {
+    let most = cursor.len();
+    for _k in 0..most {
+        if cursor.len() == 0 {
+            return Ok(());
+        }
         instruction(found, cursor, start)?;
     }
     Ok(())

@@ -1,8 +1,7 @@
-ghost use Rattle.std.specs.Prelude.{true, replicate};
-ghost use Rattle.std.specs.Int.{w16};
-ghost use Rattle.jm_poolmap.specs.Finds.{Finds};
-ghost use Rattle.jm_poolmap.specs.Forms.{site_of_width, in_order};
+ghost use Rattle.jm_poolmap.specs.Forms.{Texts, Site, times};
 ghost use Rattle.jm_poolmap.specs.Items.{item_form, items};
+ghost use Rattle.jm_poolmap.specs.Finds.{Finds};
+ghost use Rattle.std.specs.Prelude.{true};
 
 use crate::forms::{Item, Unknown};
 use crate::readings::{number8, number16, part};
@@ -16,8 +15,8 @@ pub fn site(
     cursor: &mut Cursor,
     optional: bool,
 ) -> Result<(), Or<Unknown>>
-    ensures { Finds (site_of_width w16 true optional found.old cursor.old)
-        result found.new cursor.new }
+    ensures { (texts : Texts)
+        → Finds texts (Site true optional) found.old cursor.old result found.new cursor.new }
 {
     let place = cursor.place() as u64;
     let number = number16(cursor)?;
@@ -31,7 +30,8 @@ pub fn site(
 }
 
 fn step(found: &mut List<FoundSite>, cursor: &mut Cursor, item: Item) -> Result<(), Or<Unknown>>
-    ensures { Finds (item_form item found.old cursor.old) result found.new cursor.new }
+    ensures { (texts : Texts)
+        → Finds texts (item_form item) found.old cursor.old result found.new cursor.new }
 {
     match item {
         Item::Bytes(n) => {
@@ -54,13 +54,14 @@ fn step(found: &mut List<FoundSite>, cursor: &mut Cursor, item: Item) -> Result<
     }
 }
 
-/// Items one behind another.
+/// Items one after the other.
 pub fn items(
     found: &mut List<FoundSite>,
     cursor: &mut Cursor,
     list: &[Item],
 ) -> Result<(), Or<Unknown>>
-    ensures { Finds (items list.now found.old cursor.old) result found.new cursor.new }
+    ensures { (texts : Texts)
+        → Finds texts (items list.now) found.old cursor.old result found.new cursor.new }
 {
     for item in list {
         step(found, cursor, *item)?;
@@ -68,14 +69,15 @@ pub fn items(
     Ok(())
 }
 
-/// So many rows of the same items.
+/// That many rows of the same items.
 pub fn rows(
     found: &mut List<FoundSite>,
     cursor: &mut Cursor,
     count: usize,
     row: &[Item],
 ) -> Result<(), Or<Unknown>>
-    ensures { Finds (in_order (replicate count (items row.now)) found.old cursor.old)
+    ensures { (texts : Texts)
+        → Finds texts (times count (items row.now)) found.old cursor.old
         result found.new cursor.new }
 {
     for _k in 0..count {

@@ -13,9 +13,7 @@ mod members;
 mod naming;
 mod readings;
 mod site;
-mod walk;
-mod whole;
 
-pub use finding::{PoolMap, pool_map};
+pub use finding::{PoolMap, after_pool, pool_map};
 pub use naming::name_sites;
 pub use site::Site;

@@ -1,151 +1,222 @@
-ghost use Rattle.std.specs.Prelude.{◌≡◌, ◌+◌, ◌<◌, ◌^◌, length, map, OnOk};
-ghost use Rattle.std.specs.List.{flat_map};
-ghost use Rattle.jm_class.specs.Classes.{opaque_text, code_text, held_text, attribute_text};
-ghost use Rattle.jm_class.specs.Classes.{member_text};
-ghost use Rattle.jm_class.specs.Views.{plain, opaque_of, code_of, body_of, attribute_of, member_of};
-ghost use Rattle.jm_poolmap.specs.ComputedSites.{each, opaque_step, plain_step, code_step};
-ghost use Rattle.jm_poolmap.specs.ComputedSites.{held_step, attribute_step, member_step};
-ghost use Rattle.jm_poolmap.specs.Finds.{Walks};
+ghost use Rattle.jm_class.specs.Classes.{utf8_at};
+ghost use Rattle.jm_class.specs.Layouts.{U2};
+ghost use Rattle.jm_class.specs.Views.{plain};
+ghost use Rattle.jm_poolmap.specs.Attributes.{attribute_of_code, code, body, attribute};
+ghost use Rattle.jm_poolmap.specs.Finds.{Finds, Opens};
+ghost use Rattle.jm_poolmap.specs.Forms.{Form, Texts, Sized, counted, site};
+ghost use Rattle.jm_poolmap.specs.Instructions.{instructions};
+ghost use Rattle.jm_poolmap.specs.Sites as sites;
+ghost use Rattle.jm_poolmap.specs.Views.{content_of};
 
 use crate::attributes::content_at;
-use crate::forms::{Place, Unknown};
-use crate::walk::{PartKind, Walk, note, over};
-use jm_bytes::Or;
-use jm_class::{Attribute, Body, Class, Code, Member, Plain};
+use crate::bodies::body;
+use crate::forms::{Content, Item, Place, Unknown};
+use crate::instructions::instructions;
+use crate::items::{rows, site};
+use crate::readings::{end, number16, part, sized};
+use crate::site::FoundSite;
+use jm_bytes::{List, Or};
+use jm_class::{Class, Cursor};
 
-/// An attribute by its name and its bytes.
-fn opaque(
-    walk: &mut Walk,
+/// What an attribute consists of, by its name, and a cursor over its body.
+fn opened<'a>(
+    found: &mut List<FoundSite>,
+    cursor: &mut Cursor<'a>,
     class: &Class,
     place: Place,
-    name: u16,
-    bytes: &[u8],
-) -> Result<(), Or<Unknown>>
-    requires { walk.old.place + (6 + length bytes.now) < 2 ^ 64 }
-    ensures step { Walks (opaque_step place (plain class.now).pool name bytes.now walk.old)
-        result walk.new }
-    ensures place { OnOk result (walk.new.place ≡ walk.old.place + (6 + length bytes.now)) }
+) -> Result<(Content, Cursor<'a>), Or<Unknown>>
+    ensures { (code : Form) → Opens (utf8_at (plain class.now).pool) code place
+        found.old cursor.old result found.new cursor.new }
 {
-    note(walk, false, name)?;
-    walk.place += 4;
+    let at = cursor.place() as u64;
+    let name = number16(cursor)?;
     let content = content_at(class, place, name).ok_or(Unknown)?;
-    over(walk, PartKind::Body(content), bytes)
+    found.push(FoundSite {
+        place: at,
+        wide: true,
+        optional: false,
+        number: name,
+    })?;
+    let inner = sized(cursor)?;
+    Ok((content, inner))
+}
+
+/// An attribute of a Code.
+fn attribute_of_code(
+    found: &mut List<FoundSite>,
+    cursor: &mut Cursor,
+    class: &Class,
+) -> Result<(), Or<Unknown>>
+    ensures { Finds (utf8_at (plain class.now).pool) attribute_of_code
+        found.old cursor.old result found.new cursor.new }
+{
+    let (content, mut inner) = opened(found, cursor, class, Place::Code)?;
+    body(found, &mut inner, content)?;
+    end(&inner)?;
+    Ok(())
 }
 
 /// The attributes of a Code.
-fn plains(walk: &mut Walk, class: &Class, attributes: &[Plain]) -> Result<(), Or<Unknown>>
-    requires { walk.old.place + length (flat_map opaque_text (map opaque_of attributes.now))
-        < 2 ^ 64 }
-    ensures step { Walks
-        (each (plain_step (plain class.now).pool) (map opaque_of attributes.now) walk.old)
-        result walk.new }
-    ensures place { OnOk result (walk.new.place
-        ≡ walk.old.place + length (flat_map opaque_text (map opaque_of attributes.now))) }
+#[tactic(auto, using(crate::proofs::Loops::times_more))]
+fn attributes_of_code(
+    found: &mut List<FoundSite>,
+    cursor: &mut Cursor,
+    class: &Class,
+) -> Result<(), Or<Unknown>>
+    ensures { Finds (utf8_at (plain class.now).pool) (counted U2 attribute_of_code)
+        found.old cursor.old result found.new cursor.new }
 {
-    for attribute in attributes {
-        opaque(walk, class, Place::Code, attribute.name, attribute.bytes)?;
+    let count = number16(cursor)?;
+    for _k in 0..count {
+        attribute_of_code(found, cursor, class)?;
     }
     Ok(())
 }
 
-/// A Code behind its length.
-fn code(walk: &mut Walk, class: &Class, code: &Code) -> Result<(), Or<Unknown>>
-    requires { walk.old.place + length (code_text (code_of code.now)) < 2 ^ 64 }
-    ensures step { Walks (code_step (plain class.now).pool (code_of code.now) walk.old)
-        result walk.new }
-    ensures place { OnOk result
-        (walk.new.place ≡ walk.old.place + length (code_text (code_of code.now))) }
+/// The instructions of a Code after their length.
+fn sized_instructions(found: &mut List<FoundSite>, cursor: &mut Cursor) -> Result<(), Or<Unknown>>
+    ensures { (texts : Texts)
+        → Finds texts (Sized instructions) found.old cursor.old result found.new cursor.new }
 {
-    walk.place += 8;
-    over(walk, PartKind::Instructions, code.code)?;
-    walk.place += 2;
-    over(
-        walk,
-        PartKind::Handlers(code.handlers.len() / 8),
-        code.handlers,
-    )?;
-    walk.place += 2;
-    plains(walk, class, code.attributes.as_slice())
+    let mut inner = sized(cursor)?;
+    instructions(found, &mut inner)?;
+    end(&inner)?;
+    Ok(())
 }
 
-/// An attribute by its name and what it holds.
-fn held(
-    walk: &mut Walk,
-    class: &Class,
-    place: Place,
-    name: u16,
-    body: &Body,
-) -> Result<(), Or<Unknown>>
-    requires { walk.old.place + (6 + length (held_text (body_of body.now))) < 2 ^ 64 }
-    ensures step { Walks (held_step place (plain class.now).pool name (body_of body.now) walk.old)
-        result walk.new }
-    ensures place { OnOk result
-        (walk.new.place ≡ walk.old.place + (6 + length (held_text (body_of body.now)))) }
+/// The parts of a Code.
+fn code(found: &mut List<FoundSite>, cursor: &mut Cursor, class: &Class) -> Result<(), Or<Unknown>>
+    ensures { Finds (utf8_at (plain class.now).pool) code
+        found.old cursor.old result found.new cursor.new }
 {
-    match body {
-        Body::Plain(bytes) => opaque(walk, class, place, name, bytes),
-        Body::Code(held) => {
-            note(walk, false, name)?;
-            walk.place += 4;
-            code(walk, class, held)
-        }
+    let _max_stack = part(cursor, 2)?;
+    let _max_locals = part(cursor, 2)?;
+    sized_instructions(found, cursor)?;
+    let handlers = number16(cursor)?;
+    rows(
+        found,
+        cursor,
+        usize::from(handlers),
+        &[Item::Bytes(6), Item::OptionalSite],
+    )?;
+    attributes_of_code(found, cursor, class)
+}
+
+/// The body of an attribute, which may be a Code.
+fn body_or_code(
+    found: &mut List<FoundSite>,
+    cursor: &mut Cursor,
+    class: &Class,
+    content: Content,
+) -> Result<(), Or<Unknown>>
+    ensures { Finds (utf8_at (plain class.now).pool) (body code (content_of content))
+        found.old cursor.old result found.new cursor.new }
+{
+    match content {
+        Content::Code => code(found, cursor, class),
+        Content::Any
+        | Content::Items(_)
+        | Content::ShortRows(_)
+        | Content::Rows(_)
+        | Content::Methods
+        | Content::Frames => body(found, cursor, content),
     }
 }
 
-/// The attributes of a class, a field or a method.
-pub fn attributes(
-    walk: &mut Walk,
+/// An attribute of a class, a field or a method.
+fn attribute(
+    found: &mut List<FoundSite>,
+    cursor: &mut Cursor,
     class: &Class,
     place: Place,
-    attributes: &[Attribute],
 ) -> Result<(), Or<Unknown>>
-    requires { walk.old.place
-        + length (flat_map attribute_text (map attribute_of attributes.now)) < 2 ^ 64 }
-    ensures step { Walks
-        (each (attribute_step place (plain class.now).pool) (map attribute_of attributes.now)
-        walk.old) result walk.new }
-    ensures place { OnOk result (walk.new.place
-        ≡ walk.old.place + length (flat_map attribute_text (map attribute_of attributes.now))) }
+    ensures { Finds (utf8_at (plain class.now).pool) (attribute place)
+        found.old cursor.old result found.new cursor.new }
 {
-    for next in attributes {
-        held(walk, class, place, next.name, &next.body)?;
+    let (content, mut inner) = opened(found, cursor, class, place)?;
+    body_or_code(found, &mut inner, class, content)?;
+    end(&inner)?;
+    Ok(())
+}
+
+/// The attributes of a class, a field or a method.
+#[tactic(auto, using(crate::proofs::Loops::times_more))]
+fn attributes(
+    found: &mut List<FoundSite>,
+    cursor: &mut Cursor,
+    class: &Class,
+    place: Place,
+) -> Result<(), Or<Unknown>>
+    ensures { Finds (utf8_at (plain class.now).pool) (counted U2 (attribute place))
+        found.old cursor.old result found.new cursor.new }
+{
+    let count = number16(cursor)?;
+    for _k in 0..count {
+        attribute(found, cursor, class, place)?;
     }
     Ok(())
 }
 
 /// A field or a method.
-fn member(walk: &mut Walk, class: &Class, place: Place, member: &Member) -> Result<(), Or<Unknown>>
-    requires { walk.old.place + length (member_text (member_of member.now)) < 2 ^ 64 }
-    ensures step { Walks
-        (member_step place (plain class.now).pool (member_of member.now) walk.old)
-        result walk.new }
-    ensures place { OnOk result
-        (walk.new.place ≡ walk.old.place + length (member_text (member_of member.now))) }
+fn member(
+    found: &mut List<FoundSite>,
+    cursor: &mut Cursor,
+    class: &Class,
+    place: Place,
+) -> Result<(), Or<Unknown>>
+    ensures { Finds (utf8_at (plain class.now).pool) (sites.member place)
+        found.old cursor.old result found.new cursor.new }
 {
-    walk.place += 2;
-    note(walk, false, member.name)?;
-    note(walk, false, member.descriptor)?;
-    walk.place += 2;
-    attributes(walk, class, place, member.attributes.as_slice())
+    let _access = part(cursor, 2)?;
+    site(found, cursor, false)?;
+    site(found, cursor, false)?;
+    attributes(found, cursor, class, place)
 }
 
 /// The fields or the methods.
-pub fn members(
-    walk: &mut Walk,
+#[tactic(auto, using(crate::proofs::Loops::times_more))]
+fn members(
+    found: &mut List<FoundSite>,
+    cursor: &mut Cursor,
     class: &Class,
     place: Place,
-    members: &[Member],
 ) -> Result<(), Or<Unknown>>
-    requires { walk.old.place + length (flat_map member_text (map member_of members.now))
-        < 2 ^ 64 }
-    ensures step { Walks
-        (each (member_step place (plain class.now).pool) (map member_of members.now) walk.old)
-        result walk.new }
-    ensures place { OnOk result (walk.new.place
-        ≡ walk.old.place + length (flat_map member_text (map member_of members.now))) }
+    ensures { Finds (utf8_at (plain class.now).pool) (counted U2 (sites.member place))
+        found.old cursor.old result found.new cursor.new }
 {
-    for next in members {
-        member(walk, class, place, next)?;
+    let count = number16(cursor)?;
+    for _k in 0..count {
+        member(found, cursor, class, place)?;
     }
     Ok(())
+}
+
+/// The interfaces.
+fn interfaces(found: &mut List<FoundSite>, cursor: &mut Cursor) -> Result<(), Or<Unknown>>
+    ensures { (texts : Texts)
+        → Finds texts (counted U2 site) found.old cursor.old result found.new cursor.new }
+{
+    let count = number16(cursor)?;
+    for _k in 0..count {
+        site(found, cursor, false)?;
+    }
+    Ok(())
+}
+
+/// A class from the end of its pool on.
+pub fn class_parts(
+    found: &mut List<FoundSite>,
+    cursor: &mut Cursor,
+    class: &Class,
+) -> Result<(), Or<Unknown>>
+    ensures { Finds (utf8_at (plain class.now).pool) sites.class
+        found.old cursor.old result found.new cursor.new }
+{
+    let _access = part(cursor, 2)?;
+    site(found, cursor, false)?;
+    site(found, cursor, true)?;
+    interfaces(found, cursor)?;
+    members(found, cursor, class, Place::Field)?;
+    members(found, cursor, class, Place::Method)?;
+    attributes(found, cursor, class, Place::Class)
 }

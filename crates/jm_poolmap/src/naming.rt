@@ -9,17 +9,17 @@ ghost use Rattle.jm_poolmap.specs.Sites.{names_lower, names_constant};
 use crate::site::{FoundSite, Site};
 use jm_class::Slot;
 
-const AT_FRONT: Site = Site {
+const AT_START: Site = Site {
     place: 0,
     wide: true,
 };
 
-const BEHIND_ONE: Site = Site {
+const AFTER_ONE: Site = Site {
     place: 1,
     wide: true,
 };
 
-const BEHIND_TWO: Site = Site {
+const AFTER_TWO: Site = Site {
     place: 2,
     wide: true,
 };
@@ -31,11 +31,11 @@ fn naming(tag: u8) -> (u8, &'static [Site])
     ensures sites { result.1.now ≡ name_sites tag }
 {
     match tag {
-        7 | 8 | 16 | 19 | 20 => (1, &[AT_FRONT]),
-        12 => (1, &[AT_FRONT, BEHIND_TWO]),
-        9 | 10 | 11 => (2, &[AT_FRONT, BEHIND_TWO]),
-        17 | 18 => (2, &[BEHIND_TWO]),
-        15 => (3, &[BEHIND_ONE]),
+        7 | 8 | 16 | 19 | 20 => (1, &[AT_START]),
+        12 => (1, &[AT_START, AFTER_TWO]),
+        9 | 10 | 11 => (2, &[AT_START, AFTER_TWO]),
+        17 | 18 => (2, &[AFTER_TWO]),
+        15 => (3, &[AFTER_ONE]),
         _ => (0, &[]),
     }
 }

@@ -1,34 +1,27 @@
-use Rattle.std.proofs.Common.{◌∙◌}
+use Rattle.std.proofs.Common.{◌-◌, inl, inr, arith, ◌∙◌}
 use Rattle.jm_poolmap.specs.Instructions.{instruction, instructions}
-use Rattle.jm_poolmap.proofs.Loops.{finds_stop}
-use Rattle.jm_poolmap.proofs.Runs.{run_begins, run_next, run_stops}
-use Rattle.jm_poolmap.proofs.Shrinks.{instruction-shrinks}
+use Rattle.jm_poolmap.proofs.Loops.{finds_stop, run_begins, run_next, run_stops, run_ends}
 use Rattle.jm_poolmap.proofs.instructions.instructions.Goals as goal
 
-pub loop-found-init : goal.loop-found-init
-loop-found-init c = (
-  c.place-start.ensures,
-  rw c.place-start.ensures (run_begins (instruction c.args.cursor.now.place)
-      c.args.found.now c.args.cursor.now),
-)
+pub loop-k-init : goal.loop-k-init
+loop-k-init c texts = run_begins c.len-most.result c.place-start.ensures c.len-most.ensures
 
-pub loop-found-smaller : goal.loop-found-smaller
-loop-found-smaller c = instruction-shrinks c.place-start.result c.loop-found.found c.instruction.new.found c.loop-found.cursor
-    c.instruction.new.cursor c.in_ok-instruction.ensures
-
-pub loop-found-preserved : goal.loop-found-preserved
-loop-found-preserved c = (
-  c.place-start.ensures,
-  run_next (instruction c.place-start.result) c.loop-found.found c.loop-found.cursor (instructions c.args.found.now
-      c.args.cursor.now) c.instruction.new.found c.instruction.new.cursor c.loop-found.invariant.1 (λ none. c.loop-found-test.true
-      (c.len.ensures ∙ none)) c.in_ok-instruction.ensures
-      (instruction-shrinks c.place-start.result c.loop-found.found c.instruction.new.found c.loop-found.cursor
-      c.instruction.new.cursor c.in_ok-instruction.ensures),
-)
+pub returns-then-len-eq0 : goal.returns-then-len-eq0
+returns-then-len-eq0 c texts =
+    run_ends c.len-most.result c.loop-k._k (c.loop-k.invariant texts) (inl (c.loop-k-test.true, omega arith))
 
 pub returns-in_err-instruction : goal.returns-in_err-instruction
-returns-in_err-instruction c =
-    finds_stop _ _ c.in_err-instruction.field-0.0 c.from_residual.result c.instruction.new.found c.instruction.new.found
-    c.instruction.new.cursor c.instruction.new.cursor c.from_residual.ensures.1 c.in_err-instruction.ensures
-    (λ stops. run_stops (instruction c.place-start.result) c.loop-found.found c.loop-found.cursor (instructions c.args.found.now
-    c.args.cursor.now) c.loop-found.invariant.1 (λ none. c.loop-found-test.true (c.len.ensures ∙ none)) stops)
+returns-in_err-instruction c texts =
+    finds_stop texts (instruction (c.loop-k.cursor.place - c.place-start.result)) instructions c.in_err-instruction.field-0.0
+    c.from_residual.result c.args.found.now c.loop-k.found c.instruction.new.found c.args.cursor.now c.loop-k.cursor
+    c.instruction.new.cursor c.from_residual.ensures.1 (c.in_err-instruction.ensures texts)
+    (run_stops c.len-most.result c.loop-k._k (c.loop-k.invariant texts) c.loop-k-test.true
+    (λ none. c.if-len-eq0.false (c.len.ensures ∙ none)))
+
+pub loop-k-preserved : goal.loop-k-preserved
+loop-k-preserved c texts =
+    run_next c.len-most.result c.loop-k._k (c.loop-k.invariant texts) c.loop-k-test.true
+    (λ none. c.if-len-eq0.false (c.len.ensures ∙ none)) (c.in_ok-instruction.ensures texts)
+
+pub returns : goal.returns
+returns c texts = run_ends c.len-most.result c.loop-k._k (c.loop-k.invariant texts) (inr (omega arith))

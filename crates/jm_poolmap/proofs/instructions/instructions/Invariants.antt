@@ -1,10 +1,9 @@
-use Rattle.std.proofs.Common.{◌≡◌, length}
-use Rattle.jm_poolmap.specs.Instructions.{instruction, instructions}
-use Rattle.jm_poolmap.proofs.Runs.{ToCome}
+use Rattle.std.proofs.Common.{◌-◌}
+use Rattle.jm_poolmap.specs.Forms.{Texts}
+use Rattle.jm_poolmap.specs.Instructions.{instruction}
+use Rattle.jm_poolmap.proofs.Loops.{ToCome}
 use Rattle.jm_poolmap.proofs.instructions.instructions.Given as goal
 
-abbrev pub invariant-loop-found : goal.invariant-loop-found
-invariant-loop-found l = (l.start ≡ l.fn.cursor.place) × ToCome (instruction l.start) l.found l.cursor (instructions l.fn.found l.fn.cursor)
-
-abbrev pub decreases-loop-found : goal.decreases-loop-found
-decreases-loop-found l = length l.cursor.bytes
+abbrev pub invariant-loop-k : goal.invariant-loop-k
+invariant-loop-k l = (texts : Texts)
+    → ToCome texts instruction l.start l.fn.found l.fn.cursor (l.most - l._k) l.found l.cursor

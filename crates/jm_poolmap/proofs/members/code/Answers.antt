@@ -1,20 +1,24 @@
-use Rattle.std.proofs.Common.{refl}
-use Rattle.jm_poolmap.proofs.Walking.{walks_stop, walks_last}
+use Rattle.std.proofs.Common.{arith}
+use Rattle.jm_class.specs.Classes.{utf8_at}
+use Rattle.jm_class.specs.Views.{pool_of}
 use Rattle.jm_poolmap.proofs.members.code.Goals as goal
 
-pub returns-in_err-over-clause-step : goal.returns-in_err-over-clause-step
-returns-in_err-over-clause-step c =
-    walks_stop _ _ c.in_err-over.field-0.0 c.from_residual.result c.over.new.walk c.over.new.walk c.from_residual.ensures.1
-    c.in_err-over.ensures.step
-    (λ stops. rw stops refl)
+pub returns-in_err-sized_instructions : goal.returns-in_err-sized_instructions
+returns-in_err-sized_instructions c =
+    let texts = utf8_at (pool_of c.args.class.now.pool) in
+    grind (arith, c.in_err-sized_instructions.ensures texts)
 
-pub returns-in_err-over-2-clause-step : goal.returns-in_err-over-2-clause-step
-returns-in_err-over-2-clause-step c =
-    walks_stop _ _ c.in_err-over-2.field-0.0 c.from_residual-in_err-over-2.result c.over-2.new.walk c.over-2.new.walk
-    c.from_residual-in_err-over-2.ensures.1 c.in_err-over-2.ensures.step
-    (λ stops. rw (c.in_ok-over.ensures.step, stops) refl)
+pub returns-in_err-handlers : goal.returns-in_err-handlers
+returns-in_err-handlers c =
+    let texts = utf8_at (pool_of c.args.class.now.pool) in
+    grind (arith, c.in_ok-sized_instructions.ensures texts)
 
-pub returns-clause-step : goal.returns-clause-step
-returns-clause-step c =
-    let attributes = rw c.as_slice.ensures at c.plains.ensures.step in
-    rw (c.in_ok-over.ensures.step, c.in_ok-over-2.ensures.step) (walks_last _ c.plains.result c.plains.new.walk attributes)
+pub returns-in_err-rows : goal.returns-in_err-rows
+returns-in_err-rows c =
+    let texts = utf8_at (pool_of c.args.class.now.pool) in
+    grind (arith, c.in_ok-sized_instructions.ensures texts, c.in_err-rows.ensures texts)
+
+pub returns : goal.returns
+returns c =
+    let texts = utf8_at (pool_of c.args.class.now.pool) in
+    grind (arith, c.in_ok-sized_instructions.ensures texts, c.in_ok-rows.ensures texts)

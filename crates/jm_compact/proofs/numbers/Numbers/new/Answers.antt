@@ -13,5 +13,5 @@ pub loop-kept-preserved : goal.loop-kept-preserved
 loop-kept-preserved c = (
   rw (c.in_ok-push.ensures.ok, c.loop-kept.invariant.0, c.loop-kept.invariant.1)
       (sym (numbers_next c.args.flags.now c.loop-kept.kept-index)),
-  rw (c.counted-count.ensures, c.loop-kept.invariant.1) (count_next c.args.flags.now c.loop-kept.kept-index (omega arith)),
+  rw (c.counted-count.ensures, c.loop-kept.invariant.1) (count_next c.args.flags.now c.loop-kept.kept-index),
 )
