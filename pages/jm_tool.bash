@@ -33,13 +33,13 @@ _jm_tool() {
     esac
   done
   case ${COMP_WORDS[1]} in
-    link) options='--module-path --add-modules --output --endian --bind-services --release --exclude-resources --order-resources --strip-java-debug-attributes --compact-pool --module-packages --drop-system-modules --from-image --jobs' place=() ;;
+    link) options='--module-path --add-modules --output --endian --bind-services --release --exclude-resources --order-resources --keep-order --strip-java-debug-attributes --compact-pool --module-packages --drop-system-modules --from-image --jobs' place=() ;;
     cat) options='--jobs' place=(file -) ;;
-    list) options='--include --jobs' place=(file) ;;
+    list) options='--include --sha256 --jobs' place=(file) ;;
     ls) options='--jobs' place=(file -) ;;
     info) options='--jobs' place=(file) ;;
     extract) options='--dir --include --jobs' place=(file) ;;
-    verify) options='--jobs' place=(file) ;;
+    verify) options='--nodes --jobs' place=(file) ;;
     serve) options='--jobs' place=(file) ;;
     gen) options='--modules --classes --seed --jobs' place=(folder) ;;
     describe) options='--release --jobs' place=(file) ;;

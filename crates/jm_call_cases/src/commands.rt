@@ -41,6 +41,10 @@ fn put_plugin(line: &mut String, plugin: &Plugin) -> Result<(), AllocError> {
             let count = patterns.len();
             write!(line, " order {count}")
         }
+        Plugin::KeepOrder(names) => {
+            let count = names.len();
+            write!(line, " keep-order {count}")
+        }
         Plugin::Strip => line.push_str(" strip"),
         Plugin::Compact => line.push_str(" compact"),
         Plugin::Packages => line.push_str(" packages"),
@@ -127,7 +131,7 @@ fn put_work(line: &mut String, image: &Text, work: &ImageWork) -> Result<(), All
         ImageWork::Ls { path } => put_file(line, "ls", image, Some(path)),
         ImageWork::Info => put_file(line, "info", image, None),
         ImageWork::Extract { dir, .. } => put_file(line, "extract", image, Some(dir)),
-        ImageWork::Verify => put_file(line, "verify", image, None),
+        ImageWork::Verify { .. } => put_file(line, "verify", image, None),
         ImageWork::Serve => put_file(line, "serve", image, None),
     }
 }
@@ -149,9 +153,20 @@ fn put_more(line: &mut String, task: &Task) -> Result<(), AllocError> {
     match task {
         Task::Link(task) => put_linking(line, task),
         Task::Image {
-            work: ImageWork::List { include } | ImageWork::Extract { include, .. },
+            work: ImageWork::List { include, digests },
+            ..
+        } => {
+            put_patterns(line, include)?;
+            line.push_str(if *digests { " sha256" } else { "" })
+        }
+        Task::Image {
+            work: ImageWork::Extract { include, .. },
             ..
         } => put_patterns(line, include),
+        Task::Image {
+            work: ImageWork::Verify { nodes },
+            ..
+        } => line.push_str(if *nodes { " nodes" } else { "" }),
         Task::Gen(task) => put_gen(line, task),
         Task::Describe { release, .. } => put_release(line, *release),
         _ => Ok(()),

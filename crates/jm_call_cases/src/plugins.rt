@@ -1,7 +1,7 @@
 //! What plug-ins make of a pool.
 
 use crate::pools::{pool_of, put_pool};
-use jm_bytes::{List, Or};
+use jm_bytes::{List, NoMemory, Or, Text};
 use jm_halves::NoGate;
 use jm_lines::{Known, put_bytes};
 use jm_pattern::{PatternFault, read_list};
@@ -11,13 +11,25 @@ use jm_words::Plugin;
 use std::alloc::{AllocError, Global};
 use std::thread::Threads;
 
-/// A plug-in, as its name and, behind a `=`, its patterns; none for any other word.
+/// The names of a comma list.
+fn names_of(alloc: Global, list: &str) -> Result<List<Text>, NoMemory> {
+    let mut names = List::new(alloc);
+    for name in list.split(',') {
+        names.push(Text::copy_of(alloc, name.as_bytes())?)?;
+    }
+    Ok(names)
+}
+
+/// A plug-in, as its name and, after a `=`, its patterns or names; none for any other word.
 fn plug_in(alloc: Global, word: &str) -> Result<Option<Plugin>, Or<PatternFault>> {
     if let Some(patterns) = word.strip_prefix("order=") {
         return Ok(Some(Plugin::Order(read_list(alloc, patterns.as_bytes())?)));
     }
     if let Some(patterns) = word.strip_prefix("exclude=") {
         return Ok(Some(Plugin::Exclude(read_list(alloc, patterns.as_bytes())?)));
+    }
+    if let Some(names) = word.strip_prefix("keep-order=") {
+        return Ok(Some(Plugin::KeepOrder(names_of(alloc, names)?)));
     }
     Ok(match word {
         "strip" => Some(Plugin::Strip),

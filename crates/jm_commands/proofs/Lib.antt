@@ -1,4 +1,5 @@
 pub mod GenLaws
+pub mod KeptOrderLaws
 pub mod LinkLaws
 pub mod OnceLaws
 pub mod RelinkedRun

@@ -7,6 +7,7 @@ use Rattle.jm_bytes.specs.declared.words.Order.{Order}
 use Rattle.jm_form.specs.declared.damage.Damage.{Damage}
 use Rattle.jm_filed.specs.Filed.{IsFiled}
 use Rattle.jm_form.specs.Damages.{first_damage}
+use Rattle.jm_form.specs.Head.{IsFileOf}
 use Rattle.jm_outside.specs.Files.{Files}
 use Rattle.jm_outside.specs.Shelves.{ShelfFailed, ShelfSeen}
 use Rattle.jm_outside.proofs.MadeLaws.{part_alone}
@@ -30,6 +31,7 @@ use Rattle.jm_inspect.specs.declared.stop.Stop.{Stop}
 use Rattle.jm_inspect.specs.declared.stop.Stop.TheVariants as stop
 use Rattle.jm_inspect.specs.FileParts.{IsOpenFront}
 use Rattle.jm_inspect.specs.Outcome.{Outcome, done, not_there, reading, refusing}
+use Rattle.jm_commands.specs.KeptOrder.{ordered_by}
 use Rattle.jm_commands.specs.Outcome.{link_outcome, linked}
 use Rattle.jm_inspect.specs.Works.{HasFile, ImageComes}
 use Rattle.jm_commands.specs.Run.{ImageLinkComesTo, LinkComesFrom, LinkComesTo, PathLinkComesTo, ShowsLinked}
@@ -39,8 +41,9 @@ use Rattle.jm_commands.specs.Stops.{stop_of_link}
 use Rattle.jm_commands.specs.Taken.{LinkTakes, TakesLinkedOf}
 use Rattle.jm_inspect.specs.Taken.{TakesFrom, TakesOfFront, front_size}
 use Rattle.jm_inspect.specs.World.{World, world}
-use Rattle.jm_inspect.proofs.FrontLaws.{opened, takes_so}
+use Rattle.jm_inspect.proofs.FrontLaws.{filed_there, opened, takes_so}
 use Rattle.jm_inspect.proofs.StepLaws.{comes_behind, complains, fails_at_once, made_in_part, made_put}
+use Rattle.jm_commands.proofs.KeptOrderLaws.{takes_as_asked}
 
 -- an image that is laid out shows the trees of its resources
 linked_shown : (order : Order) (result : Result LinkedImage Refusal) → IsLaid order result → ShowsLinked result
@@ -67,16 +70,19 @@ takes_link_front told path asked old new takes =
     (λ b within. front_linked (first_damage b) asked b old new within) takes
 
 -- the front, and what the link takes
-pub takes_filed : (asked : Request) (path output : List ℕ) (shelf mid new : ShelfSeen) (front : Front) (answer : Result Summary LinkStop)
+pub takes_filed : (link asked : LinkTask) (path : List ℕ) (shelf mid new : ShelfSeen) (front : Front) (answer : Result Summary LinkStop)
     (old now after : ℕ) → mid.told ≡ shelf.told → IsOpenFront shelf.told path front
-    → FiledLinks front asked path output answer mid new now after
-    → TakesOfFront front front_size old now → LinkTakes shelf.told asked (Image path) old after
-takes_filed asked path output shelf mid new front answer old now after same opens did taken =
-    let b = did.bytes in (
+    → ((b : List ℕ) → IsFileOf front.bytes front.length b → asked ≡ ordered_by b link)
+    → FiledLinks front (request_of asked) path asked.output answer mid new now after
+    → TakesOfFront front front_size old now → LinkTakes shelf.told (request_of link) (Image path) old after
+takes_filed link asked path shelf mid new front answer old now after same opens ordered did taken =
+    let b = did.bytes in
+    let takes = takes_as_asked b link now after
+    (subst (λ (t : LinkTask). TakesLinked b (request_of t) now after) (ordered b did.filed.0) did.takes) in (
       Some b,
       subst (λ (told : Option Files). HasFile told path (Some b)) same did.filed.1,
-      subst (λ (d : Option Damage). TakesLinkedOf d asked b old after) (sym (opens.1 b did.filed.0))
-          (takes_later b asked now (old + front_size b) after (taken b did.filed.0) did.takes),
+      subst (λ (d : Option Damage). TakesLinkedOf d (request_of link) b old after) (sym (opens.1 b did.filed.0))
+          (takes_later b (request_of link) now (old + front_size b) after (taken b did.filed.0) takes),
     )
 
 -- What was linked
@@ -151,28 +157,28 @@ module _ (text : Summary → List ℕ) (link : LinkTask) (directories : List (Li
 -- From an image
 
 module _ (text : Summary → List ℕ) (link : LinkTask) (b : List ℕ) (old new : World) (input : new.input ≡ old.input) where
-  image_due : (result : Result LinkedImage Refusal) → ImageComesTo b (request_of link) result
+  image_due : (result : Result LinkedImage Refusal) → ImageComesTo b (request_of (ordered_by b link)) result
       → ImageLinkComesTo text link b (link_outcome text link result)
   image_due result comes = (result, comes, linked_shown link.order result comes.1, refl)
 
-  pub image_put : (summary : Summary) (answer : Result (Unit {0}) Stop) → ImageLinks b (request_of link) link.output (Ok summary)
-      old.shelf new.shelf → PutDoes (done (text summary)) answer old.out new.out → StepComesTo (ImageLinkComesTo text link b)
-      reading answer old new
-  image_put = put_linked text link (ImageComesTo b (request_of link)) ⊥ (ImageLinkComesTo text link b) old new input image_due
-      (λ listed never. absurd never)
-
-  pub image_stopped : (given : LinkStop) → ImageLinks b (request_of link) link.output (Err given) old.shelf new.shelf → new.out.told
-      ≡ old.out.told → StepComesTo (ImageLinkComesTo text link b) reading (Err (stop_of_link given)) old new
-  image_stopped = stopped_linked text link (ImageComesTo b (request_of link)) ⊥ (ImageLinkComesTo text link b) old new input
+  pub image_put : (summary : Summary) (answer : Result (Unit {0}) Stop) → ImageLinks b (request_of (ordered_by b link)) link.output
+      (Ok summary) old.shelf new.shelf → PutDoes (done (text summary)) answer old.out new.out
+      → StepComesTo (ImageLinkComesTo text link b) reading answer old new
+  image_put = put_linked text link (ImageComesTo b (request_of (ordered_by b link))) ⊥ (ImageLinkComesTo text link b) old new input
       image_due (λ listed never. absurd never)
 
--- From the image in the file of a path
+  pub image_stopped : (given : LinkStop) → ImageLinks b (request_of (ordered_by b link)) link.output (Err given) old.shelf new.shelf
+      → new.out.told ≡ old.out.told → StepComesTo (ImageLinkComesTo text link b) reading (Err (stop_of_link given)) old new
+  image_stopped = stopped_linked text link (ImageComesTo b (request_of (ordered_by b link))) ⊥ (ImageLinkComesTo text link b) old
+      new input image_due (λ listed never. absurd never)
 
-module _ (text : Summary → List ℕ) (link : LinkTask) (path : List ℕ) (shelf mid new : ShelfSeen) (source out new_out : Seen (List ℕ))
+-- From the image in the file of a path, whose order is that of what is asked
+
+module _ (text : Summary → List ℕ) (link asked : LinkTask) (path : List ℕ) (shelf mid new : ShelfSeen) (source out new_out : Seen (List ℕ))
     (same : mid.told ≡ shelf.told) (kept : mid.faults ≡ shelf.faults) (front : Front) (opens : IsOpenFront shelf.told path front)
-    (handed new_handed : ℕ) where
+    (ordered : (b : List ℕ) → IsFileOf front.bytes front.length b → asked ≡ ordered_by b link) (handed new_handed : ℕ) where
   abbrev Did : Result Summary LinkStop → Type 0
-  Did answer = FiledLinks front (request_of link) path link.output answer mid new handed new_handed
+  Did answer = FiledLinks front (request_of asked) path asked.output answer mid new handed new_handed
 
   abbrev Ends : Result (Unit {0}) Stop → Type 0
   Ends answer = StepComesTo (ImageComes shelf.told path (ImageLinkComesTo text link)) reading answer (world shelf source out)
@@ -186,16 +192,30 @@ module _ (text : Summary → List ℕ) (link : LinkTask) (path : List ℕ) (shel
       same kept (opened (ImageLinkComesTo text link) shelf.told path front b opens
       (subst (λ (told : Option Files). IsFiled front told path b) same filed) step)
 
+  -- what was done is what is asked with the order of the image
+  did_so : (answer : Result Summary LinkStop) (did : Did answer) → ImageLinks did.bytes (request_of (ordered_by did.bytes link))
+      link.output answer mid new
+  did_so answer did =
+      subst (λ (t : LinkTask). ImageLinks did.bytes (request_of t) t.output answer mid new) (ordered did.bytes did.filed.0) did.links
+
   pub filed_put : (summary : Summary) (answer : Result (Unit {0}) Stop) → Did (Ok summary) → PutDoes (done (text summary)) answer out new_out
       → Ends answer
   filed_put summary answer did puts =
       ends did.bytes answer did.filed
-      (image_put text link did.bytes (world mid source out) (world new source new_out) refl summary answer did.links puts)
+      (image_put text link did.bytes (world mid source out) (world new source new_out) refl summary answer
+      (did_so (Ok summary) did) puts)
 
   pub filed_stopped : (given : LinkStop) → Did (Err given) → new_out.told ≡ out.told → Ends (Err (stop_of_link given))
   filed_stopped given did unput =
       ends did.bytes (Err (stop_of_link given)) did.filed
-      (image_stopped text link did.bytes (world mid source out) (world new source new_out) refl given did.links unput)
+      (image_stopped text link did.bytes (world mid source out) (world new source new_out) refl given (did_so (Err given) did) unput)
+
+-- the path that is written is that of the task
+pub output_text : (told : Option Files) (link asked : LinkTask) (path : List ℕ) (front : Front) → IsOpenFront told path front
+    → ((b : List ℕ) → IsFileOf front.bytes front.length b → asked ≡ ordered_by b link) → IsUtf8 link.output → IsUtf8 asked.output
+output_text told link asked path front opens ordered text =
+    let there = filed_there told path front opens in
+    subst (λ (t : LinkTask). IsUtf8 t.output) (sym (ordered there.0 there.1.0)) text
 
 -- By where the modules are
 

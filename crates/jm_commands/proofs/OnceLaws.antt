@@ -17,6 +17,7 @@ use Rattle.jm_words.specs.declared.tasks.Source.TheVariants as source
 use Rattle.jm_words.specs.declared.tasks.Task.{Task}
 use Rattle.jm_words.specs.declared.tasks.Task.TheVariants as task
 use Rattle.jm_commands.specs.Gen.{gen_link, made_first}
+use Rattle.jm_commands.specs.KeptOrder.{ordered_by}
 use Rattle.jm_commands.specs.LinkText.{gen_text, link_text}
 use Rattle.jm_inspect.specs.Outcome.{Outcome, describe_outcome, faulty, image_outcome}
 use Rattle.jm_commands.specs.Outcome.{behind, link_outcome}
@@ -66,7 +67,7 @@ module _ (one other : Outcome) where
 
     image_link_once : (b : List ℕ) → ImageLinkComesTo text link b one → ImageLinkComesTo text link b other → one ≡ other
     image_link_once b (result, comes, shows, is) (same, comes', shows', is') =
-        is ∙ ap (link_outcome text link) (image_once b (request_of link) result same comes.0 comes'.0) ∙ sym is'
+        is ∙ ap (link_outcome text link) (image_once b (request_of (ordered_by b link)) result same comes.0 comes'.0) ∙ sym is'
 
     from_once : (given : Source) → LinkComesFrom text (Some files) link given one → LinkComesFrom text (Some files) link given other
         → one ≡ other

@@ -6,7 +6,7 @@ use Rattle.jm_form.specs.Validity.{Valid}
 use Rattle.jm_form.proofs.Validity.{valid_sound}
 use Rattle.jm_texts.specs.declared.refusal.Refusal.{Refusal}
 use Rattle.jm_link.specs.ImageLinked.{ImageComesTo}
-use Rattle.jm_link.specs.Linked.{LinkedImage}
+use Rattle.jm_link.specs.Linked.{LinkedImage, Request}
 use Rattle.jm_link.specs.Links.{request_of}
 use Rattle.jm_link.proofs.GivenBack.{laid, never_refused, same_bytes}
 use Rattle.jm_outside.specs.Files.{Files, file as read}
@@ -27,6 +27,7 @@ use Rattle.jm_commands.specs.Run.{WordsComeTo}
 use Rattle.jm_inspect.specs.Works.{FoundComesTo, HasFile, ImageComes, OpenedComesTo}
 use Rattle.jm_inspect.specs.Sinks.{Seen}
 use Rattle.jm_inspect.specs.World.{World}
+use Rattle.jm_commands.proofs.KeptOrderLaws.{plain_request}
 
 failed_free : (output b : List ℕ) (is : Status) (old new : Option Files) → IsFailed is → IsRelinked output b is old new
 failed_free output b is old new (inl same) = subst (λ s. IsRelinked output b s old new) (sym same) tt
@@ -67,7 +68,8 @@ module _ (link : LinkTask) (b : List ℕ) where
     opened comes = go (subst (λ d. OpenedComesTo (ImageLinkComesTo link_text link b) d due) (valid_sound b valid) comes)
       where
         go : ImageLinkComesTo link_text link b due → (due.status ≡ status.Done) × (due.writes ≡ (link.output, b) ∷ [])
-        go (result, links, shows, is) = by_result result links is
+        go (result, links, shows, is) = by_result result
+            (subst (λ (asked : Request). ImageComesTo b asked result) (plain_request b link file.relinks.plugins) links) is
 
     found_is : (found : Option (List ℕ)) → HasFile told file.path found → found ≡ Some b
     found_is found has = subst (λ o. Shows o (λ files. found ≡ files_at files)) file.tells has ∙ file.found

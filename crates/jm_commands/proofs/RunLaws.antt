@@ -31,6 +31,8 @@ line_failed : (given : Complaint) (err new_err : Seen (List ℕ)) → Failed err
 line_failed (complaint.Words fault) err new_err failed = failed
 line_failed (complaint.Damaged damage) err new_err failed = failed
 line_failed (complaint.NotThere text) err new_err failed = failed
+line_failed (complaint.NoNode name) err new_err failed = failed
+line_failed (complaint.BadNodeAt name at) err new_err failed = failed
 line_failed (complaint.Refused refusal) err new_err failed = failed
 line_failed (complaint.BadNode at) err new_err failed = failed
 line_failed complaint.NotFolder err new_err failed = failed

@@ -14,7 +14,7 @@ use Rattle.jm_inspect.specs.Taken.{front_size}
 use Rattle.jm_inspect.proofs.FrontLaws.{takes_nothing, work_takes_nothing}
 use Rattle.jm_commands.proofs.LinkLaws.{takes_link_front}
 
-link_takes_nothing : (told : Option Files) (asked : Request) (given : Source) (n : ℕ) → LinkTakes told asked given n n
+pub link_takes_nothing : (told : Option Files) (asked : Request) (given : Source) (n : ℕ) → LinkTakes told asked given n n
 link_takes_nothing told asked (source.Path directories) n = tt
 link_takes_nothing told asked (source.Image path) n = takes_link_front told path asked n n (takes_nothing told path front_size n)
 

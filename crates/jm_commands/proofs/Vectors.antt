@@ -1,5 +1,5 @@
 -- What tasks without an image come to, computed from the definitions, and the files that they make.
-use Rattle.std.proofs.Common.{◌≡◌, inl, inr, ℕ, List, [], ◌∷◌, map, None, Ok, refl}
+use Rattle.std.proofs.Common.{◌≡◌, false, inl, inr, ℕ, List, [], ◌∷◌, map, None, Ok, refl}
 use Rattle.std.specs.Prelude.{codes}
 use Rattle.jm_words.specs.declared.tasks.ImageWork.TheVariants as work
 use Rattle.jm_words.specs.declared.tasks.Task.TheVariants as task
@@ -28,7 +28,7 @@ first_paths : map (λ write. write.0) (early_of (task.Gen (record { dir = codes 
     ≡ codes "d/mods/m000/module-info.class" ∷ codes "d/mods/m000/m000/p0/C0000.class" ∷ []
 first_paths = refl
 
-no_first_paths : (early_of (task.Image (codes "img") work.Verify)).writes ≡ []
+no_first_paths : (early_of (task.Image (codes "img") (work.Verify false))).writes ≡ []
 no_first_paths = refl
 
 all_roots : (gen_link (record { dir = codes "d"; modules = 3; classes = 1; seed = 0 })).roots ≡ codes "m000" ∷ codes "m001"

@@ -6,14 +6,14 @@ use Rattle.jm_words.specs.Help as words
 abbrev pub statuses_text : List ℕ
 statuses_text =
     codes "statuses:\n"
-    ++ codes "  0 the output was put\n"
-    ++ codes "  2 the words make no command\n"
+    ++ codes "  0 success\n"
+    ++ codes "  2 the command line is wrong\n"
     ++ codes "  3 the command refuses its input\n"
     ++ codes "  4 the image is damaged\n"
-    ++ codes "  5 the image, the file or the name isn't there\n"
+    ++ codes "  5 the image, the file or the name doesn't exist\n"
     ++ codes "  6 a file or a stream failed\n"
-    ++ codes "  7 no memory was found\n"
-    ++ codes "  8 a session broke its limits\n"
+    ++ codes "  7 out of memory\n"
+    ++ codes "  8 a session exceeded its limits\n"
 
 -- the text of `--help`: the commands, the options and the plug-ins, and after them the statuses
 abbrev pub help_text : List ℕ

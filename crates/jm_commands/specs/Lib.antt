@@ -1,5 +1,6 @@
 pub mod Gen
 pub mod HelpText
+pub mod KeptOrder
 pub mod LinkText
 pub mod Outcome
 pub mod RelinkedRun

@@ -25,6 +25,7 @@ use Rattle.jm_inspect.specs.declared.stop.Stop.TheVariants as stop
 use Rattle.jm_inspect.specs.FailedBefore.{FailedBefore, FilesFailed}
 use Rattle.jm_commands.specs.Gen.{gen_link, made_first}
 use Rattle.jm_commands.specs.HelpText.{help_text, version_text}
+use Rattle.jm_commands.specs.KeptOrder.{ordered_by}
 use Rattle.jm_commands.specs.LinkText.{gen_text, link_text}
 use Rattle.jm_inspect.specs.Outcome.{Early, Outcome, describe_outcome, done, faulty, not_there}
 use Rattle.jm_commands.specs.Outcome.{behind, link_outcome}
@@ -53,10 +54,10 @@ PathLinkComesTo text told link directories due =
     × ShowsLinked result × (due ≡ link_outcome text link result))
     ⊎ ((listed : List ℕ) × Shows told (λ files. ⊥) × (due ≡ not_there listed))
 
--- a link of the modules of an image without a damage
+-- a link of the modules of an image without a damage; its plug-ins know the order of that image
 abbrev pub ImageLinkComesTo : (Summary → List ℕ) → LinkTask → List ℕ → Outcome → Type 0
 ImageLinkComesTo text link b due =
-    (result : Result LinkedImage Refusal) × ImageComesTo b (request_of link) result
+    (result : Result LinkedImage Refusal) × ImageComesTo b (request_of (ordered_by b link)) result
     × ShowsLinked result × (due ≡ link_outcome text link result)
 
 -- what a link comes to, by where its modules are

@@ -3,10 +3,10 @@
 
 mod generator;
 mod help;
+mod kept_order;
 mod link;
 mod program;
 mod version;
 
-pub use help::usage;
 pub use jm_inspect::{Status, cat_command};
 pub use program::run;

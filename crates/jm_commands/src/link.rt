@@ -16,6 +16,7 @@ ghost use Rattle.jm_inspect.specs.Sinks.{Seen};
 ghost use Rattle.jm_commands.specs.Taken.{LinkTakes};
 ghost use Rattle.jm_inspect.specs.World.{sink_at, world};
 
+use crate::kept_order::ordered_by;
 use jm_bytes::{Meter, Text};
 use jm_halves::{Gate, Workers};
 use jm_inspect::{Complaint, FileFront, OpenFront, Stop, put_text};
@@ -78,25 +79,26 @@ fn link_counted<T: Threads + Sync, S: Shelf, G: Gate + Sync, R: Ledger>(
 #[tactic(auto, using(crate::proofs::LinkLaws::takes_link_front))]
 fn link_from_image<T: Threads + Sync, S: Shelf, O: Sink, G: Gate + Sync>(
     workers: &Workers<T, G>,
-    task: &LinkTask,
+    task: LinkTask,
     path: &Text,
     shelf: &mut S,
     out: &mut O,
 ) -> Result<(), Stop>
     requires path { IsUtf8 path.now }
-    requires output { IsUtf8 task.now.output }
+    requires output { IsUtf8 task.output }
     ensures comes { (source : Seen (List ℕ)) →
         StepComesTo (ImageComes (S.files shelf.old) path.now
-        (ImageLinkComesTo link_text task.now)) reading result
+        (ImageLinkComesTo link_text task)) reading result
         (world (shelf_at S.Shelf shelf.old) source (sink_at O.Sink out.old))
         (world (shelf_at S.Shelf shelf.new) source (sink_at O.Sink out.new)) }
-    ensures takes { LinkTakes (S.files shelf.old) (request_of task.now) (Source.Image path.now)
+    ensures takes { LinkTakes (S.files shelf.old) (request_of task) (Source.Image path.now)
         (S.handed shelf.old) (S.handed shelf.new) }
 {
     let mut bytes = FileFront::new(workers.alloc);
     let image = OpenFront::at(workers, path, &mut bytes, shelf)?;
+    let ordered = ordered_by::<Brand>(workers.alloc, task, &image, Blank::new(1))?;
     let reads = Blank::new(1);
-    match link_counted::<T, S, G, Brand>(workers, task, &image, shelf, reads) {
+    match link_counted::<T, S, G, Brand>(workers, &ordered, &image, shelf, reads) {
         Ok(summary) => put_summary(workers.alloc, &summary, out),
         Err(why) => Err(stop_of_link(why)),
     }
@@ -106,25 +108,28 @@ fn link_from_image<T: Threads + Sync, S: Shelf, O: Sink, G: Gate + Sync>(
 /// resources, and puts what it has. The source of the run isn't lent to it.
 pub fn link_command<T: Threads + Sync, S: Shelf, O: Sink, G: Gate + Sync>(
     workers: &Workers<T, G>,
-    task: &LinkTask,
+    task: LinkTask,
     shelf: &mut S,
     out: &mut O,
 ) -> Result<(), Stop>
-    requires { LinkIsText task.now }
+    requires { LinkIsText task }
     ensures comes { (source : Seen (List ℕ)) →
-        StepComesTo (LinkComesTo link_text (S.files shelf.old) task.now) reading result
+        StepComesTo (LinkComesTo link_text (S.files shelf.old) task) reading result
         (world (shelf_at S.Shelf shelf.old) source (sink_at O.Sink out.old))
         (world (shelf_at S.Shelf shelf.new) source (sink_at O.Sink out.new)) }
-    ensures takes { LinkTakes (S.files shelf.old) (request_of task.now) task.now.source
+    ensures takes { LinkTakes (S.files shelf.old) (request_of task) task.source
         (S.handed shelf.old) (S.handed shelf.new) }
 {
     match &task.source {
-        Source::Image(path) => link_from_image(workers, task, path, shelf, out),
+        Source::Image(path) => {
+            let path = Text::copy_of(workers.alloc, path.as_slice())?;
+            link_from_image(workers, task, &path, shelf, out)
+        }
         Source::Path(_) => match link(
             workers.rt,
             workers.alloc,
             workers.jobs,
-            task,
+            &task,
             shelf,
             workers.gate,
         ) {

@@ -46,26 +46,26 @@ fn end<E: Sink>(alloc: Global, done: Result<(), Stop>, err: &mut E) -> Status
 /// Does what a command is to do.
 fn do_command<T: Threads + Sync, S: Shelf, I: Source, O: Sink, G: Gate + Sync>(
     workers: &Workers<T, G>,
-    task: &Task,
+    task: Task,
     shelf: &mut S,
     input: &mut I,
     out: &mut O,
 ) -> Result<(), Stop>
-    requires paths { FilePathsAreText task.now }
-    requires numbers { NumbersFit task.now }
-    ensures comes { StepComesTo (TaskComesTo (S.files shelf.old) (I.rest input.old) task.now)
-        (early_of task.now) result
+    requires paths { FilePathsAreText task }
+    requires numbers { NumbersFit task }
+    ensures comes { StepComesTo (TaskComesTo (S.files shelf.old) (I.rest input.old) task)
+        (early_of task) result
         (world_of S.Shelf I.Source O.Sink shelf.old input.old out.old)
         (world_of S.Shelf I.Source O.Sink shelf.new input.new out.new) }
-    ensures takes { TaskTakes (S.files shelf.old) task.now
+    ensures takes { TaskTakes (S.files shelf.old) task
         (S.handed shelf.old) (S.handed shelf.new) }
 {
     match task {
         Task::Link(task) => link_command(workers, task, shelf, out),
-        Task::Image { image, work } => do_work(workers, image, work, shelf, input, out),
-        Task::Gen(task) => gen_command(workers, task, shelf, out),
+        Task::Image { image, work } => do_work(workers, &image, &work, shelf, input, out),
+        Task::Gen(task) => gen_command(workers, &task, shelf, out),
         Task::Describe { file, release } => {
-            describe_command(workers.alloc, file, *release, shelf, out)
+            describe_command(workers.alloc, &file, release, shelf, out)
         }
         Task::Help => help_command(workers.alloc, out),
         Task::Version => version_command(workers.alloc, out),
@@ -110,7 +110,7 @@ pub fn run<T: Threads + Sync, S: Shelf, I: Source, O: Sink, E: Sink, G: Gate + S
             };
             end(
                 alloc,
-                do_command(&workers, &command.task, shelf, input, out),
+                do_command(&workers, command.task, shelf, input, out),
                 err,
             )
         }

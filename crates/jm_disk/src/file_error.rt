@@ -26,8 +26,13 @@ pub enum Reason {
     NotFile,
     /// What stands in a folder is neither a file nor a folder.
     NotListed,
-    /// A file that was made beside its place, and whose run ended before it took its name.
+    /// A file or a folder that was made beside its place, and whose run ended before it took its
+    /// name.
     Unfinished,
+    /// The same of a run that goes on.
+    Underway,
+    /// What was made beside its place isn't there any more, or something else is.
+    Lost,
     /// A link leads nowhere.
     LeadsNowhere,
     /// More links than the system follows on one way, as in a ring of them.
@@ -50,6 +55,8 @@ impl fmt::Display for Reason {
             Reason::NotFile => "neither a file nor a link to one",
             Reason::NotListed => "neither a file nor a folder",
             Reason::Unfinished => "an unfinished file of a run that was stopped",
+            Reason::Underway => "an unfinished file of a run that goes on",
+            Reason::Lost => "its unfinished file was removed or replaced",
             Reason::LeadsNowhere => "a link that leads nowhere",
             Reason::ManyLinks => "more than 40 links on one way, or links in a ring",
             Reason::NoName => "1000 unfinished files stand beside it",
@@ -77,6 +84,16 @@ impl FileError {
         let place = match found {
             Some(found) => Some(found),
             None => String::from_str(alloc, place).ok(),
+        };
+        FileError { reason, place }
+    }
+
+    /// The same of the file that was made for a path, unless it has a place of its own.
+    pub fn of(self, path: String) -> FileError {
+        let FileError { reason, place } = self;
+        let place = match place {
+            Some(place) => Some(place),
+            None => Some(path),
         };
         FileError { reason, place }
     }

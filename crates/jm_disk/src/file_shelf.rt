@@ -4,11 +4,13 @@ ghost use Rattle.jm_outside.specs.Outcome.{CountsFaults};
 use crate::file_error::{FileError, Reason};
 use crate::folders::names_in;
 use crate::new_file::{NewFile, append_at, make};
-use crate::parts::{PartedFile, open_for};
+use crate::new_folder::NewFolder;
+use crate::parts::{ClosedFile, PartedFile, open_for};
 use crate::reading::read_at;
 use jm_bytes::{List, Text};
 use jm_outside::{Handed, Shelf, ShelfError};
 use std::alloc::Global;
+use std::fs::File;
 use std::io::ErrorKind;
 use std::rt::Files;
 use std::{io, str};
@@ -17,63 +19,75 @@ use std::{io, str};
 /// no slash goes from the folder in which the program runs.
 ///
 /// A file is made beside its place, in the same folder, as its name with `.jm_tool-` and a number
-/// behind, and takes its name when it is complete. So what was at its path is replaced whole or
-/// stays, and no other run sees a front of it.
+/// after it, and takes its name when it is complete. So what was at its path is replaced whole or
+/// stays, and no other run sees a part of it. Where folders of its path are missing, the highest of
+/// them is made so, with all below it, until making files ends or one elsewhere is made.
 ///
 /// The file that was made last is open and unfinished until the next one is made, or until a call
 /// looks at files or ends their making. Bytes go to the system at once, and to the end of the file;
-/// only `finish` waits until they are on the disk.
+/// what replaces a file waits until they are on the disk, and so does `finish`.
 ///
 /// The file of which the length or a part was asked last is open until another file's is, or until
 /// one is made or added to at its path, spelled the same: what comes of it is of one file, whatever
-/// stands at its path by then. It stays open while other files are made.
+/// stands at its path by then. It stays open while other files are made. Of the files of which parts
+/// were given, the one that was closed last is known again: another file in its place is a fault,
+/// unless the shelf made it.
 ///
 /// Each error of the system counts as one fault.
 #[derive(Drop)]
-pub struct FileShelf<'a, R: Files + AllocGlobal> {
+pub struct FileShelf<'a, R: Files<File = File> + AllocGlobal> {
     rt: &'a R,
-    made_last: Option<NewFile<R::File>>,
+    made_last: Option<NewFile>,
     parted: Option<PartedFile<R::File>>,
+    closed: Option<ClosedFile>,
     handed: Handed,
     faults: u64,
-    last_failure: Option<String>,
+    last_failure: String,
 }
 
-/// What went wrong and where, at this path if at none of its own; None where no memory was found
-/// for it.
-fn told(alloc: Global, path: &[u8], error: FileError) -> Option<String> {
+/// The bytes for which the text of a failure has room from the start: a path as long as the system
+/// takes, and what went wrong there.
+const FAILURE_ROOM: usize = 4_608;
+
+/// Says what went wrong and where, at this path if at none of its own, as far as the text has room
+/// or memory is found.
+fn tell(text: &mut String, path: &[u8], error: FileError) {
     let FileError { reason, place } = error;
-    match place {
-        Some(place) => format!(in alloc; "{place}: {reason}").ok(),
-        None => {
-            let path = str::from_utf8(path).ok()?;
-            format!(in alloc; "{path}: {reason}").ok()
-        }
-    }
+    text.clear();
+    let _told = match &place {
+        Some(place) => write!(text, "{place}: {reason}").is_ok(),
+        None => write!(text, "{}: {reason}", str::from_utf8(path).unwrap_or("")).is_ok(),
+    };
 }
 
-impl<'a, R: Files + AllocGlobal> FileShelf<'a, R> {
+impl<'a, R: Files<File = File> + AllocGlobal> FileShelf<'a, R> {
     /// The shelf of a runtime's file system, which has no fault yet.
     pub fn new(rt: &'a R) -> FileShelf<'a, R>
         ensures faults { ⟦<FileShelf<'a, R> as Shelf>⟧.faults result ≡ 0 }
         ensures handed { ⟦<FileShelf<'a, R> as Shelf>⟧.handed result ≡ 0 }
     {
+        let last_failure = match String::with_capacity(rt.alloc(), FAILURE_ROOM) {
+            Ok(room) => room,
+            Err(_) => String::new(rt.alloc()),
+        };
         FileShelf {
             rt,
             made_last: None,
             parted: None,
+            closed: None,
             handed: Handed::new(),
             faults: 0,
-            last_failure: None,
+            last_failure,
         }
     }
 
     /// For a user: the path at which the last call that answered `Failed` did, a colon, and what
-    /// the system said. None where none did, and where no memory was found for it.
+    /// the system said. None where none did.
     pub fn last_failure(&self) -> Option<&str> {
-        match &self.last_failure {
-            Some(text) => Some(text.as_str()),
-            None => None,
+        if self.last_failure.is_empty() {
+            None
+        } else {
+            Some(self.last_failure.as_str())
         }
     }
 
@@ -89,7 +103,7 @@ impl<'a, R: Files + AllocGlobal> FileShelf<'a, R> {
     }
 
     /// Has the file that isn't finished take its name, if there is one.
-    fn settle(&mut self, alloc: Global) -> Result<(), ShelfError>
+    fn settle(&mut self) -> Result<(), ShelfError>
         ensures whole { IsTrue (is_none self.new.made_last) }
         ensures handed { self.new.handed ≡ self.old.handed }
         ensures faults { CountsFaults self.old.faults self.new.faults (IsOk result)
@@ -98,28 +112,45 @@ impl<'a, R: Files + AllocGlobal> FileShelf<'a, R> {
         match self.made_last.take() {
             Some(file) => {
                 let answer = file.take_place(self.rt);
-                self.judge(alloc, b"", answer)
+                self.judge(b"", answer)
             }
             None => Ok(()),
         }
     }
 
+    /// Closes the file that isn't finished, if there is one, as one for this path is to be made.
+    /// Gives the folder that isn't finished and holds the path; else what was made takes its name.
+    fn leave(&mut self, path: &[u8]) -> Result<Option<NewFolder>, ShelfError>
+        ensures handed { self.new.handed ≡ self.old.handed }
+        ensures faults { CountsFaults self.old.faults self.new.faults (IsOk result)
+            (IsErrOf result ShelfError.Failed) }
+    {
+        match self.made_last.take() {
+            Some(file) => {
+                let answer = file.leave(self.rt, path);
+                self.judge(b"", answer)
+            }
+            None => Ok(None),
+        }
+    }
+
     /// Opens the file of a path to be read in parts, unless it is open already. None is open then
     /// where no file is there.
-    fn open(&mut self, alloc: Global, path: &[u8]) -> Result<(), ShelfError>
+    fn open(&mut self, path: &[u8]) -> Result<(), ShelfError>
         ensures whole { IsTrue (is_none self.new.made_last) }
         ensures handed { self.new.handed ≡ self.old.handed }
         ensures faults { CountsFaults self.old.faults self.new.faults (IsOk result)
             (IsErrOf result ShelfError.Failed) }
     {
-        self.settle(alloc)?;
+        self.settle()?;
         let kept = self.parted.take();
-        let answer = open_for(self.rt, kept, path);
-        self.parted = self.judge(alloc, path, answer)?;
+        let answer = open_for(self.rt, kept, &mut self.closed, path);
+        self.parted = self.judge(path, answer)?;
         Ok(())
     }
 
-    /// Closes the file that is open to be read in parts, if it is for this path.
+    /// Closes the file that is open to be read in parts, if it is for this path, at which another
+    /// one may stand from then on.
     fn forget(&mut self, path: &[u8])
         ensures made { self.new.made_last ≡ self.old.made_last }
         ensures handed { self.new.handed ≡ self.old.handed }
@@ -128,15 +159,13 @@ impl<'a, R: Files + AllocGlobal> FileShelf<'a, R> {
         if self.parted.as_ref().is_some_and(|file| file.is_for(path)) {
             self.parted = None;
         }
+        if self.closed.as_ref().is_some_and(|file| file.is_for(path)) {
+            self.closed = None;
+        }
     }
 
     /// Hands on what a call answered. Where it failed, it counts a fault and keeps what failed.
-    fn judge<T: Drop>(
-        &mut self,
-        alloc: Global,
-        path: &[u8],
-        answer: Result<T, FileError>,
-    ) -> Result<T, ShelfError>
+    fn judge<T: Drop>(&mut self, path: &[u8], answer: Result<T, FileError>) -> Result<T, ShelfError>
         ensures answer { IfOk result (λ value. answer ≡ Ok value) }
         ensures made { self.new.made_last ≡ self.old.made_last }
         ensures handed { self.new.handed ≡ self.old.handed }
@@ -153,14 +182,14 @@ impl<'a, R: Files + AllocGlobal> FileShelf<'a, R> {
             ) => Err(ShelfError::Memory),
             Err(error) => {
                 self.faults = self.faults.saturating_add(1);
-                self.last_failure = told(alloc, path, error);
+                tell(&mut self.last_failure, path, error);
                 Err(ShelfError::Failed)
             }
         }
     }
 }
 
-impl<'a, R: Files + AllocGlobal> Shelf for FileShelf<'a, R> {
+impl<'a, R: Files<File = File> + AllocGlobal> Shelf for FileShelf<'a, R> {
     ghost files = { λ _. None };
 
     ghost faults = { λ shelf. shelf.faults };
@@ -175,9 +204,9 @@ impl<'a, R: Files + AllocGlobal> Shelf for FileShelf<'a, R> {
     /// listed, a name that isn't UTF-8, and more than 16,777,216 files and folders. A folder that
     /// isn't there has no names.
     fn names(&mut self, alloc: Global, dir: &[u8]) -> Result<List<Text>, ShelfError> {
-        self.settle(alloc)?;
+        self.settle()?;
         let answer = names_in(self.rt, alloc, dir);
-        self.judge(alloc, dir, answer)
+        self.judge(dir, answer)
     }
 
     /// None where the path, or a folder of it, isn't there, or a folder of it is a file. A folder
@@ -185,9 +214,9 @@ impl<'a, R: Files + AllocGlobal> Shelf for FileShelf<'a, R> {
     /// number of bytes than the file had when it was opened. What isn't a file on a disk, as a
     /// pipe, has no such number, and is read to its end.
     fn read(&mut self, alloc: Global, path: &[u8]) -> Result<Option<Text>, ShelfError> {
-        self.settle(alloc)?;
+        self.settle()?;
         let answer = read_at(self.rt, alloc, path);
-        let Some(text) = self.judge(alloc, path, answer)? else {
+        let Some(text) = self.judge(path, answer)? else {
             return Ok(None);
         };
         self.handed.add(text.len())?;
@@ -196,13 +225,13 @@ impl<'a, R: Files + AllocGlobal> Shelf for FileShelf<'a, R> {
 
     /// None as `read`. What is there and is neither a file nor a link to one is a fault, and isn't
     /// opened. A file that is open has the length that it has by now.
-    fn length(&mut self, alloc: Global, path: &[u8]) -> Result<Option<u64>, ShelfError> {
-        self.open(alloc, path)?;
+    fn length(&mut self, _alloc: Global, path: &[u8]) -> Result<Option<u64>, ShelfError> {
+        self.open(path)?;
         let Some(file) = &mut self.parted else {
             return Ok(None);
         };
         let answer = file.length();
-        Ok(Some(self.judge(alloc, path, answer)?))
+        Ok(Some(self.judge(path, answer)?))
     }
 
     /// None and a fault as `length`. More than 4,294,967,296 bytes are a fault, and so are fewer
@@ -214,12 +243,12 @@ impl<'a, R: Files + AllocGlobal> Shelf for FileShelf<'a, R> {
         at: u64,
         length: usize,
     ) -> Result<Option<Text>, ShelfError> {
-        self.open(alloc, path)?;
+        self.open(path)?;
         let Some(file) = &mut self.parted else {
             return Ok(None);
         };
         let answer = file.part(alloc, at, length);
-        let text = self.judge(alloc, path, answer)?;
+        let text = self.judge(path, answer)?;
         self.handed.add(text.len())?;
         Ok(Some(text))
     }
@@ -229,64 +258,62 @@ impl<'a, R: Files + AllocGlobal> Shelf for FileShelf<'a, R> {
     /// memory; after a refusal it may have lost that room.
     fn read_exact(
         &mut self,
-        alloc: Global,
+        _alloc: Global,
         path: &[u8],
         at: u64,
         count: usize,
         into: &mut Text,
     ) -> Result<(), ShelfError> {
-        self.open(alloc, path)?;
+        self.open(path)?;
         let answer = match &mut self.parted {
             Some(file) => file.exact_part(at, count, into),
             None => Err(FileError::from(io::Error::from(ErrorKind::NotFound))),
         };
-        self.judge(alloc, path, answer)?;
+        self.judge(path, answer)?;
         self.handed.add(count)?;
         Ok(())
     }
 
-    /// Makes the file beside its place, and the folders of the path that are missing. Where a file
-    /// is at the path, or a link to one, it stays until the new one takes its name, which has its
-    /// permissions; where anything else is there, that is a fault, and so is a path that ends in no
-    /// name. The file that was made before takes its name first.
-    fn create(&mut self, alloc: Global, path: &[u8]) -> Result<(), ShelfError> {
+    /// Makes the file beside its place, or, where folders of the path are missing, below the
+    /// highest of them, which is made beside its own place. Where a file is at the path, or a link
+    /// to one, it stays until the new one takes its name, which has its permissions; where anything
+    /// else is there, that is a fault, and so is a path that ends in no name. The file that was made
+    /// before takes its name first, unless both are below a folder that isn't finished.
+    fn create(&mut self, _alloc: Global, path: &[u8]) -> Result<(), ShelfError> {
         self.forget(path);
-        self.settle(alloc)?;
-        let answer = make(self.rt, path);
-        self.made_last = Some(self.judge(alloc, path, answer)?);
+        let folder = self.leave(path)?;
+        let answer = make(self.rt, folder, path);
+        self.made_last = Some(self.judge(path, answer)?);
         Ok(())
     }
 
     /// Adds to the file that was made last, and else to one that is there, in its place: where none
     /// is, that is a fault. Where bytes can't be added to the file that was made last, it is
     /// removed.
-    fn append(&mut self, alloc: Global, path: &[u8], bytes: &[u8]) -> Result<(), ShelfError> {
+    fn append(&mut self, _alloc: Global, path: &[u8], bytes: &[u8]) -> Result<(), ShelfError> {
         self.forget(path);
         let answer = match &mut self.made_last {
             Some(file) if file.is_for(path) => file.append(bytes),
             _ => {
-                self.settle(alloc)?;
+                self.settle()?;
                 append_at(self.rt, path, bytes)
             }
         };
         if answer.is_err() {
             self.give_up();
         }
-        self.judge(alloc, path, answer)
+        self.judge(path, answer)
     }
 
-    /// Has the bytes of the file that was made last on the disk, and then has it take its name.
-    /// Where they can't be had there, it is removed: the system tells of lost bytes only once.
-    fn finish(&mut self, alloc: Global) -> Result<(), ShelfError> {
-        let answer = match &self.made_last {
-            Some(file) => file.flush(alloc),
+    /// Has the bytes of the file that was made last on the disk, has it take its name, and has that
+    /// on the disk. Where the bytes can't be had there, it is removed: the system tells of lost
+    /// bytes only once.
+    fn finish(&mut self, _alloc: Global) -> Result<(), ShelfError> {
+        let answer = match self.made_last.take() {
+            Some(file) => file.finish(self.rt),
             None => Ok(()),
         };
-        if answer.is_err() {
-            self.give_up();
-        }
-        self.judge(alloc, b"", answer)?;
-        self.settle(alloc)
+        self.judge(b"", answer)
     }
 
     ghost sound = { λ _. tt };

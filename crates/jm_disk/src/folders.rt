@@ -2,13 +2,13 @@
 ghost use Rattle.std.specs.Prelude.{◌∷◌, ◌++◌, [], All, IsUtf8, IfOk, IsTrue};
 ghost use Rattle.jm_outside.specs.Files.{Rising};
 
+use crate::beside::{is_unfinished, whose_unfinished};
 use crate::file_error::{FileError, Reason};
-use crate::new_file::is_unfinished;
-use crate::paths::{Kind, is_absence, kind_at, node_at, text_of};
+use crate::paths::{Kind, is_absence, is_same, kind_at, listed_at, text_of};
 use jm_bytes::{List, Text};
 use std::alloc::Global;
 use std::fs;
-use std::fs::ReadDir;
+use std::fs::{File, ReadDir};
 use std::rt::Files;
 
 /// The most files and folders that may stand below a folder.
@@ -24,7 +24,7 @@ struct Tree {
 }
 
 /// The names of the files below a folder, rising.
-pub fn names_in<R: Files + AllocGlobal>(
+pub fn names_in<R: Files<File = File> + AllocGlobal>(
     rt: &R,
     alloc: Global,
     folder: &[u8],
@@ -56,7 +56,7 @@ pub fn names_in<R: Files + AllocGlobal>(
 }
 
 /// Lists one folder of a tree. Answers false where it isn't there.
-fn list<R: Files + AllocGlobal>(
+fn list<R: Files<File = File> + AllocGlobal>(
     rt: &R,
     alloc: Global,
     root: &str,
@@ -71,39 +71,39 @@ fn list<R: Files + AllocGlobal>(
 }
 
 /// Lists the folder at a path. One that is removed meanwhile gives no more names and no error, so
-/// what stands at the path is looked at before and behind.
-fn list_at<R: Files + AllocGlobal>(
+/// what stands at the path is looked at before, and after, as long as the folder is open.
+fn list_at<R: Files<File = File> + AllocGlobal>(
     rt: &R,
     alloc: Global,
     path: &str,
     inner: &str,
     tree: &mut Tree,
 ) -> Result<bool, FileError> {
-    let Some(before) = node_at(rt, path)? else {
+    let Some(before) = listed_at(rt, path)? else {
         return Ok(false);
     };
-    let entries = match fs::read_dir(&rt, path) {
+    let mut entries = match fs::read_dir(&rt, path) {
         Ok(entries) => entries,
         Err(e) if is_absence(e.kind()) => return Ok(false),
         Err(e) => return Err(FileError::from(e)),
     };
-    add_entries(rt, alloc, entries, inner, tree)?;
-    if node_at(rt, path)? == Some(before) {
-        Ok(true)
-    } else {
-        Err(FileError::from(Reason::Vanished))
+    add_entries(rt, alloc, &mut entries, inner, tree)?;
+    let after = listed_at(rt, path)?;
+    drop(entries);
+    match after {
+        Some(after) if is_same(&before, &after) => Ok(true),
+        Some(_) | None => Err(FileError::from(Reason::Vanished)),
     }
 }
 
 /// Adds what stands in an open folder to its tree.
-fn add_entries<'a, R: Files + AllocGlobal>(
+fn add_entries<'a, R: Files<File = File> + AllocGlobal>(
     rt: &'a R,
     alloc: Global,
-    entries: ReadDir<&'a R, Global>,
+    entries: &mut ReadDir<&'a R, Global>,
     inner: &str,
     tree: &mut Tree,
 ) -> Result<(), FileError> {
-    let mut entries = entries;
     for _ in 0..=MOST_ENTRIES {
         let Some(entry) = entries.next() else {
             break;
@@ -118,11 +118,11 @@ fn add_entries<'a, R: Files + AllocGlobal>(
         }
         tree.entry_count += 1;
         let name = entry.file_name();
+        if is_unfinished(name) {
+            let reason = whose_unfinished(rt, entry.path());
+            return Err(FileError::from(reason).at(alloc, entry.path().to_string_lossy()));
+        }
         match kind {
-            Kind::File if is_unfinished(name) => {
-                let place = entry.path().to_string_lossy();
-                return Err(FileError::from(Reason::Unfinished).at(alloc, place));
-            }
             Kind::File => tree.names.push(format!(in alloc; "{inner}{name}")?)?,
             Kind::Folder => tree.folders.push(format!(in alloc; "{inner}{name}/")?)?,
         }

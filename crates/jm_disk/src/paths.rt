@@ -1,5 +1,6 @@
 //! Paths of the system, and what stands there.
 use crate::file_error::{FileError, Reason};
+use std::fs::Metadata;
 use std::io::ErrorKind;
 use std::os::unix::fs::MetadataExt;
 use std::path::Path;
@@ -19,17 +20,60 @@ pub fn text_of(path: &[u8]) -> Result<&str, FileError> {
     }
 }
 
-/// The numbers by which the system knows what stands at a path, or None where nothing does.
-pub fn node_at<R: Files>(rt: &R, path: &str) -> Result<Option<(u64, u64)>, FileError> {
+/// The folder in which the last name of a path stands.
+pub fn folder_of(path: &str) -> &str {
+    match path.rsplit_once('/') {
+        Some(("", _)) => "/",
+        Some((folder, _)) => folder,
+        None => ".",
+    }
+}
+
+/// The numbers by which the system knows a file or a folder.
+#[derive(Clone, Copy, PartialEq, Eq)]
+pub struct Node {
+    device: u64,
+    inode: u64,
+}
+
+/// The numbers of what the system says this of.
+pub fn node_of(found: &Metadata) -> Node {
+    Node {
+        device: found.dev(),
+        inode: found.ino(),
+    }
+}
+
+/// Whether what stands at a path, itself and no link to it, has these numbers.
+pub fn stands_at<R: Files>(rt: &R, path: &str, node: Node) -> Result<bool, FileError> {
+    match fs::symlink_metadata(rt, path) {
+        Ok(found) => Ok(node_of(&found) == node),
+        Err(e) if is_absence(e.kind()) => Ok(false),
+        Err(e) => Err(FileError::from(e)),
+    }
+}
+
+/// What the system says of the folder, or of what else is there, at a path that is listed. None
+/// where nothing is.
+pub fn listed_at<R: Files>(rt: &R, path: &str) -> Result<Option<Metadata>, FileError> {
     match fs::metadata(rt, path) {
-        Ok(found) => Ok(Some((found.dev(), found.ino()))),
+        Ok(found) => Ok(Some(found)),
         Err(e) if is_absence(e.kind()) => Ok(None),
         Err(e) => Err(behind_link(e)),
     }
 }
 
+/// Whether both are said of one folder. Some disks number a folder anew when it isn't in use; its
+/// length and the time of its last change stay.
+pub fn is_same(one: &Metadata, other: &Metadata) -> bool {
+    node_of(one) == node_of(other)
+        || one.dev() == other.dev()
+            && one.size() == other.size()
+            && (one.ctime(), one.ctime_nsec()) == (other.ctime(), other.ctime_nsec())
+}
+
 /// What a way that ends in a link comes to.
-fn behind_link(error: io::Error) -> FileError {
+pub fn behind_link(error: io::Error) -> FileError {
     if is_absence(error.kind()) {
         FileError::from(Reason::LeadsNowhere)
     } else {
@@ -58,12 +102,8 @@ pub enum Kind {
 pub fn kind_at<R: Files>(rt: &R, path: Path<'_>) -> Result<Kind, FileError> {
     let found = match fs::metadata(rt, path) {
         Ok(found) => found,
-        Err(e)
-            if is_absence(e.kind())
-                && !fs::symlink_metadata(rt, path).is_ok_and(|link| link.is_symlink()) => {
-            return Err(FileError::from(Reason::Vanished));
-        }
-        Err(e) => return Err(behind_link(e)),
+        Err(e) if is_absence(e.kind()) => return Err(absent_at(rt, path)),
+        Err(e) => return Err(FileError::from(e)),
     };
     if found.is_file() {
         Ok(Kind::File)
@@ -74,15 +114,25 @@ pub fn kind_at<R: Files>(rt: &R, path: Path<'_>) -> Result<Kind, FileError> {
     }
 }
 
-/// Where a file is to be made: its path without a link at its end, and the permissions of the file
-/// that it replaces, or None where nothing is there.
+/// Why nothing is found at the entry of a folder: it is a link, or it isn't there any more.
+fn absent_at<R: Files>(rt: &R, path: Path<'_>) -> FileError {
+    match fs::symlink_metadata(rt, path) {
+        Ok(found) if found.is_symlink() => FileError::from(Reason::LeadsNowhere),
+        Ok(_) => FileError::from(Reason::Vanished),
+        Err(e) if is_absence(e.kind()) => FileError::from(Reason::Vanished),
+        Err(e) => FileError::from(e),
+    }
+}
+
+/// Where a file is to be made: its path without a link at its end, and what the system says of the
+/// file that it replaces, or None where nothing is there.
 #[derive(Drop)]
 pub struct Place {
     pub path: String,
-    pub old_mode: Option<u32>,
+    pub old: Option<Metadata>,
 }
 
-/// The place of a file that is to be made at a path. A file that is there may be written to.
+/// The place of a file that is to be made at a path.
 pub fn place_at<R: Files + AllocGlobal>(rt: &R, path: &str) -> Result<Place, FileError> {
     if !ends_in_name(path) {
         return Err(FileError::from(Reason::NotFile));
@@ -92,29 +142,25 @@ pub fn place_at<R: Files + AllocGlobal>(rt: &R, path: &str) -> Result<Place, Fil
         Err(e) if e.kind() == ErrorKind::NotFound => {
             return Ok(Place {
                 path: String::from_str(rt.alloc(), path)?,
-                old_mode: None,
+                old: None,
             });
         }
         Err(e) => return Err(FileError::from(e)),
     };
-    let place = if there.is_symlink() {
-        linked_place(rt, path)?
+    if there.is_symlink() {
+        linked_place(rt, path)
     } else if there.is_file() {
-        Place {
+        Ok(Place {
             path: String::from_str(rt.alloc(), path)?,
-            old_mode: Some(there.mode() & 0o777),
-        }
+            old: Some(there),
+        })
     } else {
-        return Err(FileError::from(Reason::NotFile));
-    };
-    let _writable = fs::OpenOptions::new()
-        .append(true)
-        .open(rt, place.path.as_str())?;
-    Ok(place)
+        Err(FileError::from(Reason::NotFile))
+    }
 }
 
 /// Whether the last part of a path is a name, which no folder has by itself.
-fn ends_in_name(path: &str) -> bool {
+pub fn ends_in_name(path: &str) -> bool {
     let last = match path.rsplit_once('/') {
         Some((_, last)) => last,
         None => path,
@@ -131,12 +177,11 @@ fn linked_place<R: Files + AllocGlobal>(rt: &R, path: &str) -> Result<Place, Fil
         Err(e) => return Err(behind_link(e)),
     };
     let real = fs::canonicalize(rt, path)?.into_string();
-    let found = fs::symlink_metadata(rt, real.as_str())?;
-    if (found.dev(), found.ino()) != (target.dev(), target.ino()) {
+    if !stands_at(rt, real.as_str(), node_of(&target))? {
         return Err(FileError::from(Reason::NotFile));
     }
     Ok(Place {
         path: real,
-        old_mode: Some(target.mode() & 0o777),
+        old: Some(target),
     })
 }

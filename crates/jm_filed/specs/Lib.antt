@@ -1,4 +1,6 @@
+pub mod FileOrder
 pub mod Filed
+pub mod FirstRead
 pub mod Fronts
 pub mod Parts
 pub mod Taken

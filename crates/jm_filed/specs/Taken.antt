@@ -1,5 +1,5 @@
--- The entries that are taken of an image: all but the nodes', or those that patterns match (this
--- project's rule). A name and the content that stands under it are a pair.
+-- The entries that are taken of an image: all but the nodes', or those that patterns match; and the
+-- nodes (this project's rule). A name and the content that stands under it are a pair.
 use Rattle.std.specs.Prelude.{ℕ, ◌&&◌, not, Bool, true, List, [], ◌∷◌, map, filter}
 use Rattle.std.specs.Prelude.{All, Option, Some, None, if◌then◌else◌}
 use Rattle.std.specs.List.{list_any}
@@ -11,6 +11,8 @@ use Rattle.jm_reader.specs.Walk.{entries_of}
 use Rattle.jm_names.specs.ByName.{Named, by_name}
 use Rattle.jm_filed.specs.Filed.{IsWithin, content_at}
 use Rattle.jm_filed.specs.Parts.{named}
+use Rattle.jm_filed.specs.declared.taking.Choice.{Choice}
+use Rattle.jm_filed.specs.declared.taking.Choice.TheVariants as choice
 use Rattle.jm_filed.specs.declared.taking.TakenEntry.{TakenEntry}
 
 -- the content of what the code hands out, in a file
@@ -38,14 +40,31 @@ is_included (Some patterns) name = list_any (λ signs. matches signs name) patte
 abbrev pub is_taken : Option (List (List Sign)) → List ℕ → Bool
 is_taken include name = not (is_node name) && is_included include name
 
+-- of some entries those whose name passes a test, in their order
+abbrev pub named_among : (List ℕ → Bool) → List Entry → List Named
+named_among passes entries = filter (λ e. passes e.0) (map named entries)
+
+-- one pair, if its name passes a test
+abbrev pub named_alone : (List ℕ → Bool) → Named → List Named
+named_alone passes e = if passes e.0 then e ∷ [] else []
+
+-- the entries of an image whose names pass a test, by rising name
+abbrev pub named_of : (List ℕ → Bool) → List ℕ → List Named
+named_of passes b = by_name (named_among passes (entries_of b))
+
 -- of some entries those that are taken, in their order
 abbrev pub taken_among : Option (List (List Sign)) → List Entry → List Named
-taken_among include entries = filter (λ e. is_taken include e.0) (map named entries)
-
--- one pair, if it is taken
-abbrev pub taken_alone : Option (List (List Sign)) → Named → List Named
-taken_alone include e = if is_taken include e.0 then e ∷ [] else []
+taken_among include entries = named_among (is_taken include) entries
 
 -- what is taken of an image, by rising name
 abbrev pub taken : List ℕ → Option (List (List Sign)) → List Named
-taken b include = by_name (taken_among include (entries_of b))
+taken b include = named_of (is_taken include) b
+
+-- the entries of an image with the name of a node, by rising name
+abbrev pub nodes : List ℕ → List Named
+nodes b = named_of is_node b
+
+-- a name is one of those that are chosen
+abbrev pub is_chosen : Choice → List ℕ → Bool
+is_chosen (choice.Resources include) name = is_taken include.now name
+is_chosen choice.Nodes name = is_node name

@@ -3,13 +3,15 @@
 #![tactic(auto)]
 
 mod extent;
+mod file_order;
 mod filed_image;
 mod reading;
 mod taken_name;
 mod taking;
 
 pub use extent::Extent;
+pub use file_order::names_in_file_order;
 pub use filed_image::FiledImage;
 pub use reading::read_extent;
 pub use taken_name::TakenName;
-pub use taking::{TakenEntry, taken};
+pub use taking::{TakenEntry, nodes, taken};

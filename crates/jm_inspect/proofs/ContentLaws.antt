@@ -1,20 +1,27 @@
 -- The content that a look-up leads to, read from its file by the index.
-use Rattle.std.proofs.Common.{◌≡◌, ◌+◌, ◌-◌, ◌≤◌, ℕ, List, ◌++◌, length, take, drop, replicate, Option, Some, None}
-use Rattle.std.proofs.Common.{Result, Ok, Err, option_map, refl, sym, ap, ◌∙◌, arith}
+use Rattle.std.proofs.Common.{◌≡◌, ◌+◌, ◌-◌, ◌≤◌, ℕ, List, ◌++◌, length, map, take, drop, replicate, Option, Some, None}
+use Rattle.std.proofs.Common.{Result, Ok, Err, option_map, refl, sym, ap, ◌∙◌, arith, subst}
 use Rattle.std.proofs.lemmas.List.{length-append, length-drop, length-replicate, length-take, take_at, drop_at}
 use Rattle.jm_bytes.proofs.Choice.{same_ok}
+use Rattle.jm_extract.specs.Filed.{sizes}
+use Rattle.jm_extract.proofs.SizeLaws.{sizes_taken}
 use Rattle.jm_filed.specs.Filed.{IsFiled}
+use Rattle.jm_filed.specs.Taken.{LieWithin, taken_as}
+use Rattle.jm_filed.specs.declared.taking.TakenEntry.{TakenEntry}
 use Rattle.jm_form.specs.declared.container.Header.{Header}
+use Rattle.jm_form.specs.declared.container.HeaderFault.{HeaderFault}
 use Rattle.jm_form.specs.declared.rows.Row.{Row}
 use Rattle.jm_form.specs.Entries.{content_of}
 use Rattle.jm_form.specs.Head.{IsFileOf, header_of, header_with, index_length}
 use Rattle.jm_form.specs.Places.{contents}
+use Rattle.jm_names.specs.ByName.{Named}
 use Rattle.jm_names.specs.UtfForms.{utf}
-use Rattle.jm_form.specs.Validity.{look}
+use Rattle.jm_form.specs.Validity.{ValidAs, look}
 use Rattle.jm_form.proofs.LocalityLaws.{header_of_front, header_same}
 use Rattle.jm_form.proofs.Validity.{sound_valid}
 use Rattle.jm_outside.specs.Files.{Files}
 use Rattle.jm_outside.specs.Shelves.{ShelfFailed, ShelfSeen}
+use Rattle.jm_reader.specs.Listing.{IsIndex}
 use Rattle.jm_reader.specs.Look.{SoundIn, head}
 use Rattle.jm_reader.proofs.HeadLaws.{head_is}
 use Rattle.jm_reader.proofs.IndexLaws.{lies_within}
@@ -31,7 +38,7 @@ use Rattle.jm_inspect.specs.Works.{WorkComesTo}
 use Rattle.jm_inspect.specs.Sinks.{Seen}
 use Rattle.jm_inspect.specs.World.{world}
 use Rattle.jm_inspect.specs.Sought.{BeginsAt, IsContent, LookUp, ReadsContent, Seeks, row_size}
-use Rattle.jm_inspect.specs.Taken.{TakesOfFront}
+use Rattle.jm_inspect.specs.Taken.{TakesOfFront, contents_size}
 use Rattle.jm_inspect.proofs.FrontLaws.{filed_there, front_there, never_lacks, of_work, opened, part_of, unopened}
 use Rattle.jm_inspect.proofs.StepLaws.{put_on_text}
 
@@ -44,6 +51,25 @@ front_header told path front (is, sound) =
     let found = front_there told path front.bytes front.length is in
     let valid = sound_valid found.0 (sound found.0 found.2) in
     (valid.0, header_same front.bytes front.length found.0 found.2 is.holds.head ∙ valid.1.header)
+
+-- the front is the index of its files
+pub is_index : (told : Option Files) (path : List ℕ) (front : Front) → IsOpenFront told path front
+    → (h : Header) × IsIndex front.bytes front.length h
+is_index told path front (is, sound) = (
+  read.0,
+  record {
+    within = is.holds.within;
+    header = header_of_front front.bytes front.length read.0 read.1 (is.holds.index read.0 read.1);
+    valid = λ b file.
+        let valid = sound_valid b (sound b file) in
+        let same : valid.0 ≡ read.0 = same_ok {E = HeaderFault} valid.0 read.0
+        (sym valid.1.header ∙ sym (header_same front.bytes front.length b file is.holds.head) ∙ read.1) in
+        subst (ValidAs b) same valid.1;
+  },
+)
+  where
+    read : (h : Header) × (header_with front.bytes front.length ≡ Ok h)
+    read = front_header told path front (is, sound)
 
 -- the front, and a content where a row has it
 abbrev pub file_with : List ℕ → ℕ → Row → List ℕ → List ℕ
@@ -242,3 +268,12 @@ pub takes_sought : (told : Option Files) (path : List ℕ) (front : Front) (soug
     → ReadsContent told path front row result → TakesOfFront front (λ b. length (content_found (sought b))) old new
 takes_sought told path front sought row result old new more seeks reads b whole =
     let long = found_long told path front sought row result seeks reads b whole in omega (arith, more, long)
+
+-- the contents of entries that were chosen
+pub takes_chosen : (front : Front) (ts : List TakenEntry) (chosen : List ℕ → List Named)
+    → ((b : List ℕ) → IsFileOf front.bytes front.length b → map (taken_as b) ts ≡ chosen b) → LieWithin front.length ts
+    → (old new : ℕ) → new ≤ old + sizes ts → TakesOfFront front (λ b. contents_size (chosen b)) old new
+takes_chosen front ts chosen are within old new more b file =
+    let long = sizes_taken front.length b ts file.length_is within in
+    let same = ap contents_size (are b file) in
+    omega (arith, more, long, same)

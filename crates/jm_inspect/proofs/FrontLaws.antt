@@ -1,7 +1,7 @@
 -- The first bytes of a file: what is known of the file, and how many were taken.
 use Rattle.std.proofs.Common.{◌≡◌, ◌≢◌, ◌+◌, ◌-◌, ◌≤◌, ℕ, List, [], ◌++◌}
 use Rattle.std.proofs.Common.{length, take, drop, min, replicate, Option, Some, None, option_map}
-use Rattle.std.proofs.Common.{Result, Ok, Err, refl, sym, ap, ◌∙◌, subst, arith}
+use Rattle.std.proofs.Common.{Result, Ok, Err, refl, sym, ap, ◌∙◌, subst, arith, true, false}
 use Rattle.std.proofs.lemmas.List.{append_assoc, length-append, length-replicate, length-take}
 use Rattle.std.proofs.lemmas.List.{length-drop, take_at, take-take, drop-take, take-append-drop}
 use Rattle.jm_bytes.proofs.Choice.{same_ok, same_some}
@@ -33,7 +33,7 @@ use Rattle.jm_inspect.specs.Works.{HasFile, ImageComes, TextComesTo, WorkComesTo
 use Rattle.jm_inspect.specs.Steps.{StepComesTo, WorkDoes}
 use Rattle.jm_inspect.specs.Sinks.{Seen}
 use Rattle.jm_inspect.specs.Taken.{TakesBy, TakesFrom, TakesOf, TakesOfFront, WorkTakes, front_size, front_with}
-use Rattle.jm_inspect.specs.Taken.{extract_size, opened_size, sought_size, unless_damaged, work_length}
+use Rattle.jm_inspect.specs.Taken.{digests_size, extract_size, nodes_size, opened_size, sought_size, unless_damaged, work_length}
 use Rattle.jm_inspect.specs.World.{World, world}
 use Rattle.jm_inspect.proofs.StepLaws.{comes_behind, complains, fails_at_once, step_as}
 
@@ -304,8 +304,10 @@ takes_opened told path front more old now new (is, sound) taken also =
 -- a work may take nothing
 pub work_takes_nothing : (told : Option Files) (path : List ℕ) (does : ImageWork) (n : ℕ) → WorkTakes told path does n n
 work_takes_nothing told path of.Info n = takes_nothing told path front_size n
-work_takes_nothing told path of.Verify n = takes_nothing told path front_size n
-work_takes_nothing told path (of.List include) n = takes_nothing told path front_size n
+work_takes_nothing told path (of.Verify false) n = takes_nothing told path front_size n
+work_takes_nothing told path (of.Verify true) n = takes_nothing told path nodes_size n
+work_takes_nothing told path (of.List include false) n = takes_nothing told path front_size n
+work_takes_nothing told path (of.List include true) n = takes_nothing told path (digests_size include) n
 work_takes_nothing told path (of.Cat name) n = takes_nothing told path (sought_size (λ b. look b name)) n
 work_takes_nothing told path (of.Ls folder) n = takes_nothing told path (sought_size (λ b. node_sought b folder)) n
 work_takes_nothing told path (of.Extract dir include) n = takes_nothing told path (extract_size include) n
@@ -326,8 +328,10 @@ work_takes told path work old new goes takes = go work goes takes
     go : (work : ImageWork) → work ≢ of.Serve → TakesFrom told path (opened_size (work_length work)) old new
         → WorkTakes told path work old new
     go of.Info goes takes = alone takes
-    go of.Verify goes takes = alone takes
-    go (of.List include) goes takes = alone takes
+    go (of.Verify false) goes takes = alone takes
+    go (of.Verify true) goes takes = takes
+    go (of.List include false) goes takes = alone takes
+    go (of.List include true) goes takes = takes
     go (of.Cat name) goes takes = takes
     go (of.Ls folder) goes takes = takes
     go (of.Extract dir include) goes takes = takes

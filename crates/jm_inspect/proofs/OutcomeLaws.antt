@@ -1,5 +1,5 @@
 -- What all commands have in common.
-use Rattle.std.proofs.Common.{◌≡◌, ◌≢◌, ℕ, List, Option, Some, None, Result, Ok, Err, refl}
+use Rattle.std.proofs.Common.{◌≡◌, ◌≢◌, ℕ, List, Option, Some, None, Result, Ok, Err, if◌then◌else◌, refl}
 use Rattle.jm_extract.specs.Extracted.{extracted}
 use Rattle.jm_form.specs.Validity.{look}
 use Rattle.jm_form.specs.declared.rows.Row.{Row}
@@ -14,7 +14,9 @@ use Rattle.jm_names.specs.ByName.{Named}
 use Rattle.jm_texts.specs.declared.refusal.Refusal.{Refusal}
 use Rattle.jm_words.specs.declared.tasks.ImageWork.{ImageWork}
 use Rattle.jm_words.specs.declared.tasks.ImageWork.TheVariants as work
-use Rattle.jm_inspect.specs.Outcome.{cat_outcome, describe_outcome, descriptor_outcome, extract_outcome, image_outcome, ls_outcome}
+use Rattle.jm_inspect.specs.Outcome.{cat_outcome, describe_outcome, descriptor_outcome, extract_outcome, image_outcome, ls_outcome, verified}
+use Rattle.jm_inspect.specs.VerifyText.{nodes_complaint}
+use Rattle.jm_inspect.specs.declared.complaint.Complaint.{Complaint}
 
 -- Whether a session is due
 
@@ -39,10 +41,15 @@ pub extract_session : (dir : List ℕ) (due : Result (List Named) Refusal) → (
 extract_session dir (Ok entries) = refl
 extract_session dir (Err refusal) = refl
 
+verified_session : (b : List ℕ) (given : Option Complaint) → (verified b given).session ≡ None
+verified_session b None = refl
+verified_session b (Some given) = refl
+
 -- of a work on an image, but of `serve`
 pub work_session : (does : ImageWork) (b text : List ℕ) → does ≢ work.Serve → (image_outcome does b text).session ≡ None
 work_session (work.Cat name) b text other = cat_session name (look b name)
 work_session (work.Ls folder) b text other = ls_session folder (held (stat b folder))
 work_session (work.Extract dir include) b text other = extract_session dir (extracted b include)
+work_session (work.Verify nodes) b text other = verified_session b (if nodes then nodes_complaint b else None)
 work_session work.Serve b text other = absurd (other refl)
 work_session _ b text other = refl

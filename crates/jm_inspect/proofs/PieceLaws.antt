@@ -50,7 +50,7 @@ front_behind xs ys old now new first front = go old.told now.told new.told first
     go None b c one two = tt
     go (Some put) b c one two = told put c (subst (λ (o : Option (List ℕ)). Told o c (λ before after. PutsFront before after ys)) one two)
 
-front_longer : (xs ys : List ℕ) (old new : Seen (List ℕ)) → GetsFront xs old new → GetsFront (xs ++ ys) old new
+pub front_longer : (xs ys : List ℕ) (old new : Seen (List ℕ)) → GetsFront xs old new → GetsFront (xs ++ ys) old new
 front_longer xs ys old new front = go old.told new.told front
   where
     go : (a b : Option (List ℕ)) → Told a b (λ before after. PutsFront before after xs)

@@ -165,6 +165,10 @@ complaint_stays (complaint.Damaged given) = behind (codes "damaged: ") (damage_t
 complaint_stays (complaint.NotThere text) = behind (codes "not there: ") (shown_text text) refl (shown_stays text)
 complaint_stays (complaint.Refused given) = behind (codes "refused: ") (refusal_text given) refl (refusal_stays given)
 complaint_stays (complaint.BadNode at) = number (codes "damaged: BadNode ") at refl
+complaint_stays (complaint.NoNode name) = behind (codes "damaged: NoNode ") (shown name) refl (shown_stays (utf name))
+complaint_stays (complaint.BadNodeAt name at) =
+    both_stay (codes "damaged: BadNode " ++ decimal at) (32 ∷ shown name) (number (codes "damaged: BadNode ") at refl)
+    (behind (32 ∷ []) (shown name) refl (shown_stays (utf name)))
 complaint_stays complaint.NotFolder = plain_stays (codes "refused: NotFolder") refl
 complaint_stays (complaint.LongLine k) = number (codes "session: LongLine ") k refl
 complaint_stays complaint.TooManyLines = plain_stays (codes "session: TooManyLines 1000001") refl

@@ -1,9 +1,9 @@
 -- What works come to on small images, computed from the definitions.
-use Rattle.std.proofs.Common.{◌≡◌, ◌⊎◌, inl, inr, ℕ, List, [], ◌∷◌, ◌++◌, take, Option, Some, None, Result, Ok, Err, refl}
+use Rattle.std.proofs.Common.{true, false, ◌≡◌, ◌⊎◌, inl, inr, ℕ, List, [], ◌∷◌, ◌++◌, take, Option, Some, None, Result, Ok, Err, refl}
 use Rattle.std.specs.Prelude.{codes}
 use Rattle.std.specs.Fmt.{digits}
 use Rattle.jm_form.proofs.Vectors.{no_entries, overlapping, tiny}
-use Rattle.jm_jrt.proofs.Vectors.{bad_node}
+use Rattle.jm_jrt.proofs.Vectors.{bad_node, one, with_byte}
 use Rattle.jm_jrt.specs.declared.serve_error.ServeError.{ServeError}
 use Rattle.jm_jrt.specs.declared.serve_error.ServeError.TheVariants as serve_error
 use Rattle.jm_words.specs.declared.tasks.ImageWork.TheVariants as work
@@ -45,15 +45,26 @@ no_entry_above_ffff = refl
 
 -- `verify` and `info`
 
-one_entry : image_outcome work.Verify tiny [] ≡ done (codes "valid 1\n")
+one_entry : image_outcome (work.Verify false) tiny [] ≡ done (codes "valid 1\n")
 unfolding digits
 one_entry = refl
 
-no_entry_at_all : image_outcome work.Verify no_entries [] ≡ done (codes "valid 0\n")
+no_modules : image_outcome (work.Verify true) tiny [] ≡ refused status.Damaged (codes "damaged: NoNode /modules")
+no_modules = refl
+
+right_nodes : image_outcome (work.Verify true) one [] ≡ done (codes "valid 6\n")
+unfolding digits
+right_nodes = refl
+
+bad_flag : image_outcome (work.Verify true) (with_byte 182 2 one) [] ≡ refused status.Damaged (codes "damaged: BadNode 0 /packages/p")
+unfolding digits
+bad_flag = refl
+
+no_entry_at_all : image_outcome (work.Verify false) no_entries [] ≡ done (codes "valid 0\n")
 unfolding digits
 no_entry_at_all = refl
 
-overlap : WorkComesTo (shelf overlapping) None (codes "img") work.Verify
+overlap : WorkComesTo (shelf overlapping) None (codes "img") (work.Verify false)
     (refused status.Damaged (codes "damaged: Overlap 0 1"))
 unfolding digits
 overlap = (Some overlapping, refl, refl)

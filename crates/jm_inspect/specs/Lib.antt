@@ -1,9 +1,11 @@
 pub mod Cat
+pub mod DigestSteps
 pub mod ExtractText
 pub mod FailedBefore
 pub mod FileParts
 pub mod Ledgers
 pub mod ListText
+pub mod NodeSteps
 pub mod Outcome
 pub mod Pieces
 pub mod SessionHeld

@@ -37,9 +37,9 @@ use Rattle.jm_inspect.specs.declared.status.Status.{Status}
 use Rattle.jm_inspect.specs.declared.status.Status.TheVariants as status
 use Rattle.jm_inspect.specs.ExtractText.{extract_text}
 use Rattle.jm_texts.specs.InfoText.{info_text}
-use Rattle.jm_inspect.specs.ListText.{list_text}
-use Rattle.jm_inspect.specs.Texts.{line_of}
-use Rattle.jm_inspect.specs.VerifyText.{verify_text}
+use Rattle.jm_inspect.specs.ListText.{digest_list_text, list_text}
+use Rattle.jm_inspect.specs.Texts.{complaint_text, line_of}
+use Rattle.jm_inspect.specs.VerifyText.{nodes_complaint, verify_text}
 
 -- the status, what the output gets, the line that the error sink gets, the files that are made, and
 -- the image's bytes where the source is read by a session over them
@@ -174,15 +174,27 @@ extract_outcome dir (Ok entries) =
     made_and_put (writes_of dir entries) (extract_text (length entries))
 extract_outcome dir (Err refusal) = refusing refusal
 
+-- `verify`: a line with the number of entries, or the complaint of the nodes, if these are judged
+
+-- what `verify` comes to, by the complaint of the nodes, if there is one
+abbrev pub verified : List ℕ → Option Complaint → Outcome
+verified b None = done (verify_text b)
+verified b (Some given) = refused status.Damaged (complaint_text given)
+
+-- what `verify` comes to, by whether the nodes are judged
+abbrev pub verify_outcome : Bool → List ℕ → Outcome
+verify_outcome nodes b = verified b (if nodes then nodes_complaint b else None)
+
 -- what the work on an image comes to, by the bytes of its file, which have no damage, and by the
 -- source's text
 abbrev pub image_outcome : ImageWork → List ℕ → List ℕ → Outcome
 image_outcome (work.Cat name) b text = cat_outcome name (look b name)
-image_outcome (work.List include) b text = done (list_text b include)
+image_outcome (work.List include digests) b text =
+    done (if digests then digest_list_text b include else list_text b include)
 image_outcome (work.Ls path) b text = ls_outcome path (held (stat b path))
 image_outcome work.Info b text = done (info_text b)
 image_outcome (work.Extract dir include) b text = extract_outcome dir (extracted b include)
-image_outcome work.Verify b text = done (verify_text b)
+image_outcome (work.Verify nodes) b text = verify_outcome nodes b
 image_outcome work.Serve b text = session_outcome b text
 
 -- What is done with files before it is known what is due

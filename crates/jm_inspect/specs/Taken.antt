@@ -1,5 +1,8 @@
 -- How many bytes of its image a command takes from the shelf (this project's rule).
-use Rattle.std.specs.Prelude.{ℕ, ◌+◌, ◌≡◌, ◌≤◌, List, length, Option, Some, None, Result, Ok, Err}
+use Rattle.std.specs.Prelude.{ℕ, ◌+◌, ◌≡◌, ◌≤◌, true, false, List, length, Option, Some, None}
+use Rattle.std.specs.Prelude.{Result, Ok, Err}
+use Rattle.std.specs.List.{sum_by}
+use Rattle.jm_filed.specs.Taken.{nodes, taken}
 use Rattle.jm_form.specs.declared.container.Header.{Header}
 use Rattle.jm_form.specs.declared.damage.Damage.{Damage}
 use Rattle.jm_form.specs.Damages.{first_damage}
@@ -9,6 +12,7 @@ use Rattle.jm_form.specs.declared.rows.Row.{Row}
 use Rattle.jm_form.specs.Validity.{look}
 use Rattle.jm_extract.specs.Extracted.{taken_size}
 use Rattle.jm_jrt.specs.Stat.{node_sought}
+use Rattle.jm_names.specs.ByName.{Named}
 use Rattle.jm_outside.specs.Files.{Files}
 use Rattle.jm_pattern.specs.declared.signs.Sign.{Sign}
 use Rattle.jm_valid.specs.Opened.{Front}
@@ -39,6 +43,18 @@ opened_size more b = front_size b + unless_damaged (first_damage b) (more b)
 -- those for a content that is found in it
 abbrev pub sought_size : (List ℕ → Option (Row × List ℕ)) → List ℕ → ℕ
 sought_size sought b = opened_size (λ c. length (content_of (sought c))) b
+
+-- how many bytes the contents of some entries have together
+abbrev pub contents_size : List Named → ℕ
+contents_size entries = sum_by (λ e. length e.1) entries
+
+-- those for the contents of the entries that are taken
+abbrev pub digests_size : Option (List (List Sign)) → List ℕ → ℕ
+digests_size include b = opened_size (λ c. contents_size (taken c include)) b
+
+-- those for the contents of the nodes
+abbrev pub nodes_size : List ℕ → ℕ
+nodes_size b = opened_size (λ c. contents_size (nodes c)) b
 
 -- those for the contents that are extracted
 abbrev pub extract_size : Option (List (List Sign)) → List ℕ → ℕ
@@ -71,15 +87,21 @@ abbrev pub work_length : ImageWork → List ℕ → ℕ
 work_length (work.Cat name) b = length (content_of (look b name))
 work_length (work.Ls folder) b = length (content_of (node_sought b folder))
 work_length (work.Extract dir include) b = taken_size b include
+work_length (work.List include true) b = contents_size (taken b include)
+work_length (work.Verify true) b = contents_size (nodes b)
 work_length _ b = 0
 
 -- what a work on the image in the file of a path takes: `info`, `verify` and `list` the front,
 -- and of an image without a damage `cat` and `ls` the content of the name or of the folder's node
--- besides, and `extract` those of the entries that it takes; `serve` the file
+-- besides, `extract` and `list` with digests those of the entries that they take, and `verify`
+-- those of the nodes where it judges them; `serve` the file
 abbrev pub WorkTakes : Option Files → List ℕ → ImageWork → (old new : ℕ) → Type 0
 WorkTakes told path work.Info old new = TakesFrom told path front_size old new
-WorkTakes told path work.Verify old new = TakesFrom told path front_size old new
-WorkTakes told path (work.List include) old new = TakesFrom told path front_size old new
+WorkTakes told path (work.Verify false) old new = TakesFrom told path front_size old new
+WorkTakes told path (work.Verify true) old new = TakesFrom told path nodes_size old new
+WorkTakes told path (work.List include false) old new = TakesFrom told path front_size old new
+WorkTakes told path (work.List include true) old new =
+    TakesFrom told path (digests_size include) old new
 WorkTakes told path (work.Cat name) old new =
     TakesFrom told path (sought_size (λ b. look b name)) old new
 WorkTakes told path (work.Ls folder) old new =

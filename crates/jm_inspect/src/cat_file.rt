@@ -28,7 +28,11 @@ use std::marker::Brand;
 use std::sync::ledger::Ledger;
 
 /// Does what `find_row_in` does, with counters of its own.
-fn find_counted<H: Ledger, R: Ledger>(image: &OpenFront, name: &[u8], blanks: Blanks) -> Option<Row>
+pub fn find_counted<H: Ledger, R: Ledger>(
+    image: &OpenFront,
+    name: &[u8],
+    blanks: Blanks,
+) -> Option<Row>
     requires hashes { IsLedger blanks.hashes.name blanks.hashes.parts H.name H.parts }
     requires reads { IsLedger blanks.reads.name blanks.reads.parts R.name R.parts }
     ensures { Seeks (λ b. look b name.now) image.now.front result }

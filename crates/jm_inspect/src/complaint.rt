@@ -1,12 +1,14 @@
 ghost use Rattle.std.specs.Prelude.{◌≡◌, ◌∷◌, ◌++◌, [], codes, IfOk, IsOk, string_bytes};
-ghost use Rattle.jm_names.specs.Shown.{shown_text};
+ghost use Rattle.std.specs.Fmt.{decimal};
+ghost use Rattle.jm_names.specs.Shown.{shown, shown_text};
 ghost use Rattle.jm_inspect.specs.Steps.{status_of};
 ghost use Rattle.jm_inspect.specs.Texts.{line_of};
 
 use crate::status::Status;
+use itoa::Buffer;
 use jm_bytes::{NoMemory, Text, copy_of, extend};
 use jm_form::Damage;
-use jm_names::extend_shown_text;
+use jm_names::{extend_shown, extend_shown_text};
 use jm_texts::Refusal;
 use jm_words::WordsFault;
 use std::alloc::{AllocError, Global};
@@ -24,6 +26,15 @@ pub enum Complaint {
     Refused(Refusal),
     /// The node of the folder that `ls` was asked for has a bad content at this place.
     BadNode(usize),
+    /// No entry has this name of a root of the two trees.
+    NoNode(Text),
+    /// The content of the node of this name has its first bad word at this place.
+    BadNodeAt {
+        /// The name.
+        name: Text,
+        /// The place.
+        at: usize,
+    },
     /// `ls` was asked for what is no folder.
     NotFolder,
     /// The line of a session of this number, counted from 1, is too long.
@@ -40,6 +51,7 @@ impl Complaint {
         match self {
             Complaint::Words(_) => Status::Words,
             Complaint::Damaged(_) | Complaint::BadNode(_) => Status::Damaged,
+            Complaint::NoNode(_) | Complaint::BadNodeAt { .. } => Status::Damaged,
             Complaint::NotThere(_) => Status::NotThere,
             Complaint::Refused(_) | Complaint::NotFolder => Status::Refused,
             Complaint::LongLine(_) | Complaint::TooManyLines => Status::Session,
@@ -59,6 +71,8 @@ impl Complaint {
                 line_with(alloc, b"refused: ", text.as_slice())
             }
             Complaint::BadNode(at) => bytes_of(format!(in alloc; "damaged: BadNode {at}\n")),
+            Complaint::NoNode(name) => no_node_line(alloc, name.as_slice()),
+            Complaint::BadNodeAt { name, at } => bad_node_line(alloc, *at, name.as_slice()),
             Complaint::NotFolder => line_with(alloc, b"refused: ", b"NotFolder"),
             Complaint::LongLine(number) => {
                 bytes_of(format!(in alloc; "session: LongLine {number}\n"))
@@ -86,6 +100,31 @@ fn not_there_line(alloc: Global, text: &[u8]) -> Result<Vec<u8>, NoMemory>
 {
     let mut line = copy_of(alloc, b"not there: ")?;
     extend_shown_text(&mut line, text)?;
+    extend(&mut line, b"\n")?;
+    Ok(line)
+}
+
+/// The line on a node that isn't there.
+fn no_node_line(alloc: Global, name: &[u8]) -> Result<Vec<u8>, NoMemory>
+    ensures { IfOk result (λ line. line.items
+        ≡ codes "damaged: NoNode " ++ shown name.now ++ 10 ∷ []) }
+{
+    let mut line = copy_of(alloc, b"damaged: NoNode ")?;
+    extend_shown(alloc, &mut line, name)?;
+    extend(&mut line, b"\n")?;
+    Ok(line)
+}
+
+/// The line on the node of this name whose content has its first bad word at a place.
+fn bad_node_line(alloc: Global, at: usize, name: &[u8]) -> Result<Vec<u8>, NoMemory>
+    ensures { IfOk result (λ line. line.items
+        ≡ codes "damaged: BadNode " ++ decimal at ++ 32 ∷ shown name.now ++ 10 ∷ []) }
+{
+    let mut line = copy_of(alloc, b"damaged: BadNode ")?;
+    let mut place = Buffer::new();
+    extend(&mut line, place.format(at).as_bytes())?;
+    extend(&mut line, b" ")?;
+    extend_shown(alloc, &mut line, name)?;
     extend(&mut line, b"\n")?;
     Ok(line)
 }

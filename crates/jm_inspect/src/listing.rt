@@ -20,7 +20,7 @@ use std::marker::Brand;
 use std::sync::ledger::{Blank, Ledger};
 
 /// Adds the line of an entry at the end: its size in bytes, a space, its name as it is shown.
-fn extend_line(alloc: Global, text: &mut Vec<u8>, entry: &TakenEntry) -> Result<(), NoMemory>
+pub fn extend_line(alloc: Global, text: &mut Vec<u8>, entry: &TakenEntry) -> Result<(), NoMemory>
     ensures { OnOk result (text.new.items ≡ text.old.items ++ sized_line (sized_as entry.now)) }
 {
     let name = entry.name.view().to_text(alloc)?;

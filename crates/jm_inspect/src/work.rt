@@ -10,11 +10,13 @@ ghost use Rattle.jm_inspect.specs.Works.{WorkComesTo};
 ghost use Rattle.jm_inspect.specs.World.{sink_at, world_of};
 
 use crate::cat_file::cat_file;
+use crate::digests::put_digest_list;
 use crate::extract::extract_file;
 use crate::front::{FileFront, OpenFront};
 use crate::info::{put_info, put_verified};
 use crate::listing::put_list;
 use crate::ls::ls_file;
+use crate::nodes::put_judged;
 use crate::serve::serve_file;
 use crate::stop::Stop;
 use jm_bytes::Text;
@@ -44,8 +46,16 @@ fn do_opened<S: Shelf, O: Sink>(
 {
     match work {
         ImageWork::Info => put_info(alloc, image, out),
-        ImageWork::Verify => put_verified(alloc, image, out),
-        ImageWork::List { include } => put_list(alloc, image, include, out),
+        ImageWork::Verify { nodes: false } => put_verified(alloc, image, out),
+        ImageWork::Verify { nodes: true } => put_judged(alloc, image, shelf, out),
+        ImageWork::List {
+            include,
+            digests: false,
+        } => put_list(alloc, image, include, out),
+        ImageWork::List {
+            include,
+            digests: true,
+        } => put_digest_list(alloc, image, include, shelf, out),
         ImageWork::Cat { name } => cat_file(alloc, image, name.as_slice(), shelf, out),
         ImageWork::Ls { path } => ls_file(alloc, image, path.as_slice(), shelf, out),
         ImageWork::Extract { dir, include } => {

@@ -24,7 +24,7 @@ use Rattle.jm_reader.proofs.HeadLaws.{head_is}
 use Rattle.jm_jrt.specs.declared.jrt_error.JrtError.{JrtError}
 use Rattle.jm_jrt.specs.declared.words.Form.{Form}
 use Rattle.jm_jrt.specs.declared.words.Form.TheVariants as form
-use Rattle.jm_jrt.specs.Told.{all_told, children_told, fault_of, fits, is_half_sound, is_row_sound, owners_told}
+use Rattle.jm_jrt.specs.Told.{all_told, bad_word, children_told, fault_of, first_bad_word, fits, is_half_sound, is_row_sound, owners_told}
 use Rattle.jm_jrt.specs.Told.{pair_count, told_in, word_count, words_fault}
 
 -- The same over the header, the strings and the locations
@@ -49,6 +49,14 @@ owners_by h section content =
     (Owners (map (λ k. record { empty = word_by h content (2 * k) == 1; «module» = text_at section (word_by h content (2 * k + 1)) })
     (range_with_len 0 (pair_count content - 0))))
 
+abbrev bad_child_by : Header → List ℕ → List ℕ → List ℕ → Option ℕ
+bad_child_by h section places content =
+    first_bad_word (λ k. fits content k && is_row_sound section (row_by h places (word_by h content k))) (word_count content)
+
+abbrev bad_pair_by : Header → List ℕ → List ℕ → Option ℕ
+bad_pair_by h section content =
+    first_bad_word (λ k. fits content k && is_half_sound section k (word_by h content k)) (2 * pair_count content)
+
 -- Bytes with one index
 
 module _ (f b : List ℕ) (h : Header) (front : head f ≡ h) (file : head b ≡ h) (same : SameIndex f b h) (content : List ℕ) where
@@ -69,10 +77,27 @@ module _ (f b : List ℕ) (h : Header) (front : head f ≡ h) (file : head b ≡
   told_same form.Children = children_same
   told_same form.Owners = owners_same
 
+  bad_same : (form : Form) → bad_word f content form ≡ bad_word b content form
+  bad_same form.Children =
+      ap (λ g. bad_child_by g (strings f g) (locations f g) content) front
+      ∙ ap (λ s. bad_child_by h s (locations f h) content) same.strings
+      ∙ ap (λ l. bad_child_by h (strings b h) l content) same.locations
+      ∙ sym (ap (λ g. bad_child_by g (strings b g) (locations b g) content) file)
+  bad_same form.Owners =
+      ap (λ g. bad_pair_by g (strings f g) content) front
+      ∙ ap (λ s. bad_pair_by h s content) same.strings
+      ∙ sym (ap (λ g. bad_pair_by g (strings b g) content) file)
+
 -- an index and each of its files tell the same
 pub file_told : (f : List ℕ) (size : ℕ) (h : Header) → header_of f ≡ Ok h → ((b : List ℕ) → IsFileOf f size b → ValidAs b h)
     → (b : List ℕ) → IsFileOf f size b → (content : List ℕ) (form : Form) → told_in f content form ≡ told_in b content form
 file_told f size h read valid b file content form = told_same f b h (head_is f h read) (head_is b h (valid b file).header)
+    (same_index f size b h file (header_fits f h read)) content form
+
+-- and have the same first bad word
+pub file_bad : (f : List ℕ) (size : ℕ) (h : Header) → header_of f ≡ Ok h → ((b : List ℕ) → IsFileOf f size b → ValidAs b h)
+    → (b : List ℕ) → IsFileOf f size b → (content : List ℕ) (form : Form) → bad_word f content form ≡ bad_word b content form
+file_bad f size h read valid b file content form = bad_same f b h (head_is f h read) (head_is b h (valid b file).header)
     (same_index f size b h file (header_fits f h read)) content form
 
 -- What is told, by the first bad word

@@ -19,7 +19,9 @@ use Rattle.jm_form.specs.TreeView.{TreeItem, Folder, Package, File, Link, item_o
 use Rattle.jm_form.specs.Validity.{look}
 use Rattle.jm_jrt.specs.declared.jrt_error.JrtError.{JrtError}
 use Rattle.jm_jrt.specs.declared.jrt_error.JrtError.TheVariants.{NotThere, NotFolder}
-use Rattle.jm_jrt.specs.Told.{children_told, owners_told}
+use Rattle.jm_jrt.specs.declared.words.Form.{Form}
+use Rattle.jm_jrt.specs.declared.words.Form.TheVariants as form
+use Rattle.jm_jrt.specs.Told.{bad_word, children_told, owners_told}
 
 -- what look-up gives: a row and a content
 abbrev Sought : Type 0
@@ -135,6 +137,16 @@ node_content b path = option_map (λ found. found.1) (node_sought b path)
 -- how many hashes that look-up takes at most
 abbrev pub node_hashes : List ℕ → ℕ
 node_hashes path = if is_none (node_path path) then 0 else 2
+
+-- Nodes that are judged
+
+-- what the content of the node of a name is read as: children, or below `/packages/` pairs
+abbrev pub form_of : List ℕ → Form
+form_of name = if has_children name then form.Children else form.Owners
+
+-- the place of the first bad word of the content of the node of a name, or none
+abbrev pub node_fault : List ℕ → List ℕ → List ℕ → Option ℕ
+node_fault b name content = bad_word b content (form_of name)
 
 -- Folders and owners
 

@@ -2,7 +2,7 @@
 -- this project's rule).
 use Rattle.std.specs.Prelude.{ℕ, ◌+◌, ◌-◌, ◌*◌, ◌/◌, ◌%◌, ◌==◌, nat_lt, Bool, false, ◌&&◌, not}
 use Rattle.std.specs.Prelude.{List, length, map}
-use Rattle.std.specs.Prelude.{Option, Some, None, Result, unwrap_or, if◌then◌else◌}
+use Rattle.std.specs.Prelude.{Option, Some, None, option_map, Result, unwrap_or, if◌then◌else◌}
 use Rattle.std.specs.List.{range_with_len}
 use Rattle.jm_bytes.specs.Checks.{fault_if, first_fault, unless_fault}
 use Rattle.jm_bytes.specs.Word.{word}
@@ -38,13 +38,17 @@ word_count content = (length content + 3) / 4
 abbrev pub pair_count : List ℕ → ℕ
 pair_count content = (length content + 7) / 8
 
--- `BadNode` with the place of word k where it isn't sound
-abbrev pub word_fault : (ℕ → Bool) → ℕ → Option JrtError
-word_fault is_sound k = fault_if (not (is_sound k)) (BadNode (4 * k))
+-- the place of word k where it isn't sound
+abbrev pub word_fault : (ℕ → Bool) → ℕ → Option ℕ
+word_fault is_sound k = fault_if (not (is_sound k)) (4 * k)
 
--- the first bad one of so many words
+-- the place of the first bad one of so many words
+abbrev pub first_bad_word : (ℕ → Bool) → ℕ → Option ℕ
+first_bad_word is_sound n = first_fault (map (word_fault is_sound) (range_with_len 0 n))
+
+-- `BadNode` with that place
 abbrev pub words_fault : (ℕ → Bool) → ℕ → Option JrtError
-words_fault is_sound n = first_fault (map (word_fault is_sound) (range_with_len 0 n))
+words_fault is_sound n = option_map (λ at. BadNode at) (first_bad_word is_sound n)
 
 -- The form of children
 
@@ -125,7 +129,11 @@ abbrev pub words_read : List ℕ → Form → ℕ
 words_read content form.Children = word_count content
 words_read content form.Owners = 2 * pair_count content
 
--- the first bad word of a content of this form
+-- the place of the first bad word of a content of this form
+abbrev pub bad_word : List ℕ → List ℕ → Form → Option ℕ
+bad_word b content form = first_bad_word (is_word_sound b content form) (words_read content form)
+
+-- `BadNode` with that place
 abbrev pub fault_of : List ℕ → List ℕ → Form → Option JrtError
 fault_of b content form = words_fault (is_word_sound b content form) (words_read content form)
 

@@ -22,4 +22,4 @@ pub use replies::{extend_children, extend_next_children};
 pub use requests::answer;
 pub use serve_error::ServeError;
 pub use session::serve;
-pub use trees::{children, children_in, node_row, owner, stat};
+pub use trees::{children, children_in, node_fault, node_row, owner, stat};

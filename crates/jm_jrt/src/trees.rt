@@ -18,7 +18,7 @@ use crate::jrt_error::JrtError;
 use crate::node::Node;
 use crate::owners::{find_owner, first_full};
 use crate::paths::{has_children, is_package, node_path};
-use crate::words::{Form, check};
+use crate::words::{Form, check, first_bad_word};
 use jm_bytes::{Meter, Steps};
 use jm_form::Row;
 use jm_names::{cut_at_last, is_node};
@@ -58,6 +58,34 @@ pub fn node_row<H: Ledger, R: Ledger>(
     ensures reads { IsLater reads.old reads.new }
 {
     find_row_in(index, node_path(path)?, hashes, reads)
+}
+
+/// What the content of the node of a name is read as.
+fn form_of(name: &[u8]) -> Form
+    ensures { result ≡ answers.form_of name.now }
+{
+    if has_children(name) {
+        Form::Children
+    } else {
+        Form::Owners
+    }
+}
+
+/// The place of the first bad word of the content of the node of a name, in each file of the index;
+/// None where it has none.
+pub fn node_fault<R: Ledger>(
+    index: &Index,
+    name: &[u8],
+    content: &[u8],
+    reads: &mut Meter<R>,
+) -> Option<usize>
+    requires { reads.old.bytes ≡ index.now.bytes }
+    ensures place { (b : List ℕ) → IsFileOf index.now.bytes index.now.length b
+        → result ≡ answers.node_fault b name.now content.now }
+    ensures reads { IsLater reads.old reads.new }
+{
+    let _header = index.header();
+    first_bad_word(index, content, form_of(name), reads)
 }
 
 /// What stands at a path, by the content of the path's node.

@@ -5,7 +5,8 @@ ghost use Rattle.jm_form.specs.Texts.{ended_length, text_ends};
 ghost use Rattle.jm_reader.specs.Look.{head};
 ghost use Rattle.jm_reader.specs.Walk.{IsLater};
 ghost use Rattle.jm_jrt.specs.Nodes.{on_ok};
-ghost use Rattle.jm_jrt.specs.Told.{all_told, fault_of, is_word_sound, told_in, words_read};
+ghost use Rattle.jm_jrt.specs.Told.{all_told, bad_word, fault_of, is_word_sound, told_in};
+ghost use Rattle.jm_jrt.specs.Told.{words_read};
 ghost use Rattle.jm_jrt.specs.Told as told;
 
 use crate::jrt_error::JrtError;
@@ -109,8 +110,31 @@ impl<'b, 'a> Ended<'b, 'a> {
     }
 }
 
-/// Refuses a content that has a bad word, with the place of the first one. All strings count as
-/// read: the last zero byte in them is looked for.
+/// The place of the first bad word of a content, if it has one. All strings count as read: the last
+/// zero byte in them is looked for.
+pub fn first_bad_word<R: Ledger>(
+    index: &Index,
+    content: &[u8],
+    form: Form,
+    reads: &mut Meter<R>,
+) -> Option<usize>
+    requires { reads.old.bytes ≡ index.now.bytes }
+    ensures place { result ≡ bad_word index.now.bytes content.now form }
+    ensures reads { IsLater reads.old reads.new }
+{
+    let (buf, header) = (index.buf(), index.header());
+    let strings = buf.part(header.strings_place(), header.strings as usize, reads);
+    let length = ended_texts(strings).len() as u64;
+    let ended = Ended { index, length };
+    for k in 0..words_in(content, form) {
+        if !ended.is_sound(content, form, k, reads) {
+            return Some(4 * k);
+        }
+    }
+    None
+}
+
+/// Refuses a content that has a bad word, with the place of the first one.
 pub fn check<R: Ledger>(
     index: &Index,
     content: &[u8],
@@ -124,14 +148,9 @@ pub fn check<R: Ledger>(
         ≡ told_in b content.now form }
     ensures reads { IsLater reads.old reads.new }
 {
-    let (buf, header) = (index.buf(), index.header());
-    let strings = buf.part(header.strings_place(), header.strings as usize, reads);
-    let length = ended_texts(strings).len() as u64;
-    let ended = Ended { index, length };
-    for k in 0..words_in(content, form) {
-        if !ended.is_sound(content, form, k, reads) {
-            return Err(JrtError::BadNode(4 * k));
-        }
+    let _header = index.header();
+    match first_bad_word(index, content, form, reads) {
+        Some(at) => Err(JrtError::BadNode(at)),
+        None => Ok(()),
     }
-    Ok(())
 }

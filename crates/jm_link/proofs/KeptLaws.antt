@@ -171,6 +171,7 @@ module _ (release : ℕ) (R : List ℕ → List ℕ → Type 0) where
   acted (plugin.Exclude patterns) old new leaves is =
       subst (AreKept old) (same_ok {E = BadClass} _ new is) (filtered (λ r. not (matches_any patterns r.0)) old)
   acted (plugin.Order patterns) old new leaves is = absurd (false≢true leaves)
+  acted (plugin.KeepOrder names) old new leaves is = absurd (false≢true leaves)
   acted plugin.Strip old new leaves is = remade_all is_class (λ name. stripped_text) (λ name. stripped_says release) old new is
   acted plugin.Compact old new leaves is = remade_all is_class (λ name. compact_text) (λ name. compacted_says release) old new is
   acted plugin.Packages old new leaves is = remade_all is_descriptor (listing_text (names_of old))

@@ -59,6 +59,7 @@ Takes source asked name =
 -- a plug-in that leaves the resources in their order
 abbrev pub leaves_order : Plugin → Bool
 leaves_order (plugin.Order patterns) = false
+leaves_order (plugin.KeepOrder names) = false
 leaves_order (plugin.Exclude patterns) = true
 leaves_order plugin.Strip = true
 leaves_order plugin.Compact = true

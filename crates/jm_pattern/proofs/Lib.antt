@@ -3,9 +3,11 @@ pub mod ComputedReadingLaws
 pub mod Examples
 pub mod FirstItem
 pub mod FirstSign
+pub mod IndexLaws
 pub mod Laws
 pub mod Leading
 pub mod LineSums
+pub mod NumberLaws
 pub mod RuleLaws
 pub mod Runs
 pub mod SearchCosts

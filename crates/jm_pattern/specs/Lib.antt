@@ -1,9 +1,11 @@
 pub mod ComputedMatching
 pub mod ComputedReading
+pub mod Indexing
 pub mod ItemRules
 pub mod Items
 pub mod Matching
 pub mod MatchingCosts
 pub mod MatchingSteps
+pub mod Numbers
 pub mod Reading
 pub mod ReadingSteps

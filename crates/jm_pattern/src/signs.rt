@@ -71,6 +71,13 @@ impl Pattern {
         Ok(Pattern { signs })
     }
 
+    /// The signs, in their order.
+    pub fn signs(&self) -> &[Sign]
+        ensures { result.now ≡ self.now }
+    {
+        self.signs.as_slice()
+    }
+
     /// Whether the whole of `name` is a concatenation of what the signs stand for. It costs no more
     /// than `matches_counted`.
     pub fn matches(&self, name: &[u8]) -> bool

@@ -140,6 +140,7 @@ module _ (release : ℕ) (takes : List ℕ → Bool) (IsRight : List ℕ → Cla
 abbrev pub TakenBy : ℕ → Plugin → Pairs → Type 0
 TakenBy release (plugin.Exclude patterns) pairs = Unit {0}
 TakenBy release (plugin.Order patterns) pairs = Unit {0}
+TakenBy release (plugin.KeepOrder names) pairs = Unit {0}
 TakenBy release plugin.Strip pairs = TakenRead release is_class pairs
 TakenBy release plugin.Compact pairs = TakenRead release is_class pairs
 TakenBy release plugin.Packages pairs = TakenRead release is_descriptor pairs
@@ -149,6 +150,7 @@ pub makes_computed : (release : ℕ) (one : Plugin) (pairs : Pairs) → TakenBy 
     → Makes release one pairs (act release one pairs)
 makes_computed release (plugin.Exclude patterns) pairs read = search (rules)
 makes_computed release (plugin.Order patterns) pairs read = search (rules)
+makes_computed release (plugin.KeepOrder names) pairs read = search (rules)
 makes_computed release plugin.Strip pairs read = search (rules, made_anew)
 makes_computed release plugin.Compact pairs read = search (rules, rule, made_anew)
 makes_computed release plugin.Packages pairs read = search (rules, made_anew)
@@ -158,6 +160,7 @@ pub makes_only : (release : ℕ) (one : Plugin) (pairs : Pairs) (result : Result
     → result ≡ act release one pairs
 makes_only release (plugin.Exclude patterns) pairs result is = is
 makes_only release (plugin.Order patterns) pairs result is = is
+makes_only release (plugin.KeepOrder names) pairs result is = is
 makes_only release plugin.Strip pairs result are =
     anew_only release is_class (λ name c text. text ≡ class_text (strip c)) (λ name. stripped_text)
     (λ name c own fits is. is) pairs result are

@@ -4,6 +4,7 @@ pub mod ComputedPluginsLaws
 pub mod NameLaws
 pub mod PackagingLaws
 pub mod OrderLaws
+pub mod RankLaws
 pub mod SystemModulesLaws
 pub mod TurnLaws
 pub mod Vectors

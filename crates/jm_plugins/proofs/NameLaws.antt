@@ -13,7 +13,6 @@ use Rattle.jm_bytes.proofs.Pairs.{pairs_append}
 use Rattle.jm_class.specs.Classes.{ClassData}
 use Rattle.jm_class.specs.Releases.{class_for}
 use Rattle.jm_class.specs.declared.class.ClassFault.{ClassFault}
-use Rattle.jm_pattern.specs.declared.signs.Sign.{Sign}
 use Rattle.jm_pattern.specs.ComputedMatching.{matches}
 use Rattle.jm_compact.specs.Compact.{compact_text}
 use Rattle.jm_pool.specs.Pairs.{names_of}
@@ -21,7 +20,7 @@ use Rattle.jm_words.specs.declared.tasks.Plugin.{Plugin}
 use Rattle.jm_words.specs.declared.tasks.Plugin.TheVariants as plugin
 use Rattle.jm_plugins.specs.declared.chain.BadClass.{BadClass}
 use Rattle.jm_pattern.specs.ComputedMatching.{matches_any}
-use Rattle.jm_plugins.specs.Matching.{excluded, ordered}
+use Rattle.jm_plugins.specs.Matching.{excluded, kept, ordered, ranked}
 use Rattle.jm_bytes.specs.Results.{followed}
 use Rattle.jm_plugins.specs.Packaging.{is_descriptor, listing_text}
 use Rattle.jm_plugins.specs.ComputedPlugins.{act, apply, remade, remade_pair, remade_pairs, stripped_text}
@@ -80,8 +79,8 @@ names_remade release takes text (pair ∷ pairs) left is =
 -- What is said of a list of names, where it stays true of fewer of them and of them in another order
 
 module _ (release : ℕ) (Says : List (List ℕ) → Type 0) (fewer : (test : List ℕ → Bool) (names : List (List ℕ)) → Says names
-    → Says (filter test names)) (turned : (patterns : List (List Sign)) (pairs : List (List ℕ × List ℕ)) → Says (names_of pairs)
-    → Says (names_of (ordered patterns pairs))) where
+    → Says (filter test names)) (turned : (tests : List (List ℕ → Bool)) (pairs : List (List ℕ × List ℕ)) → Says (names_of pairs)
+    → Says (names_of (ranked tests pairs))) where
   acted_on : (one : Plugin) (pairs left : List (List ℕ × List ℕ)) → act release one pairs ≡ Ok left → Says (names_of pairs)
       → Says (names_of left)
   acted_on (plugin.Exclude patterns) pairs left is says =
@@ -89,7 +88,9 @@ module _ (release : ℕ) (Says : List (List ℕ) → Type 0) (fewer : (test : Li
       let names : names_of (excluded patterns pairs) ≡ filter test (names_of pairs) = names_filter test pairs in
       subst (λ l. Says (names_of l)) (same_ok (excluded patterns pairs) left is) (subst Says (sym names) (fewer test (names_of pairs) says))
   acted_on (plugin.Order patterns) pairs left is says =
-      subst (λ l. Says (names_of l)) (same_ok (ordered patterns pairs) left is) (turned patterns pairs says)
+      subst (λ l. Says (names_of l)) (same_ok (ordered patterns pairs) left is) (turned (map matches patterns) pairs says)
+  acted_on (plugin.KeepOrder names) pairs left is says =
+      subst (λ l. Says (names_of l)) (same_ok (kept names pairs) left is) (turned (map bytes_eq names) pairs says)
   acted_on plugin.Strip pairs left is says =
       subst Says (sym (names_remade release is_class (λ name. stripped_text) pairs left is)) says
   acted_on plugin.Compact pairs left is says =
@@ -121,17 +122,17 @@ module _ (P : List ℕ → Type 0) where
   all_fewer : (test : List ℕ → Bool) (names : List (List ℕ)) → All P names → All P (filter test names)
   all_fewer test names all = All-filter test P names all
 
-  all_turned : (patterns : List (List Sign)) (pairs : List (List ℕ × List ℕ)) → All P (names_of pairs)
-      → All P (names_of (ordered patterns pairs))
+  all_turned : (tests : List (List ℕ → Bool)) (pairs : List (List ℕ × List ℕ)) → All P (names_of pairs)
+      → All P (names_of (ranked tests pairs))
   all_turned [] pairs all = all
-  all_turned (pattern ∷ patterns) pairs all =
-      let test = λ (name : List ℕ). not (matches pattern name) in
-      let front = filter (λ (pair : List ℕ × List ℕ). matches pattern pair.0) pairs in
-      let behind = filter (λ (pair : List ℕ × List ℕ). not (matches pattern pair.0)) pairs in
-      let first = subst (All P) (sym (names_filter (matches pattern) pairs)) (all_fewer (matches pattern) (names_of pairs) all) in
+  all_turned (own ∷ tests) pairs all =
+      let test = λ (name : List ℕ). not (own name) in
+      let front = filter (λ (pair : List ℕ × List ℕ). own pair.0) pairs in
+      let behind = filter (λ (pair : List ℕ × List ℕ). not (own pair.0)) pairs in
+      let first = subst (All P) (sym (names_filter own pairs)) (all_fewer own (names_of pairs) all) in
       let others = subst (All P) (sym (names_filter test pairs)) (all_fewer test (names_of pairs) all) in
-      subst (All P) (sym (map-append (λ (pair : List ℕ × List ℕ). pair.0) front (ordered patterns behind)))
-      (All-append P (names_of front) (names_of (ordered patterns behind)) first (all_turned patterns behind others))
+      subst (All P) (sym (map-append (λ (pair : List ℕ × List ℕ). pair.0) front (ranked tests behind)))
+      (All-append P (names_of front) (names_of (ranked tests behind)) first (all_turned tests behind others))
 
   -- what holds of each name still does
   pub names_kept : (release : ℕ) (plugins : List Plugin) (before after : List (List ℕ × List ℕ)) → apply release plugins before
@@ -143,26 +144,26 @@ module _ (P : List ℕ → Type 0) where
 abbrev Differ : List (List ℕ) → Type 0
 Differ names = AllPairs (λ one other. one ≢ other) names
 
-differ_turned : (patterns : List (List Sign)) (pairs : List (List ℕ × List ℕ)) → Differ (names_of pairs)
-    → Differ (names_of (ordered patterns pairs))
+differ_turned : (tests : List (List ℕ → Bool)) (pairs : List (List ℕ × List ℕ)) → Differ (names_of pairs)
+    → Differ (names_of (ranked tests pairs))
 differ_turned [] pairs differ = differ
-differ_turned (pattern ∷ patterns) pairs differ =
-    let test = λ (name : List ℕ). not (matches pattern name) in
-    let front = filter (λ (pair : List ℕ × List ℕ). matches pattern pair.0) pairs in
-    let behind = filter (λ (pair : List ℕ × List ℕ). not (matches pattern pair.0)) pairs in
-    let first = subst Differ (sym (names_filter (matches pattern) pairs)) (AllPairs-filter (λ one other. one ≢ other)
-    (matches pattern) (names_of pairs) differ) in
+differ_turned (own ∷ tests) pairs differ =
+    let test = λ (name : List ℕ). not (own name) in
+    let front = filter (λ (pair : List ℕ × List ℕ). own pair.0) pairs in
+    let behind = filter (λ (pair : List ℕ × List ℕ). not (own pair.0)) pairs in
+    let first = subst Differ (sym (names_filter own pairs)) (AllPairs-filter (λ one other. one ≢ other)
+    own (names_of pairs) differ) in
     let others = subst Differ (sym (names_filter test pairs)) (AllPairs-filter (λ one other. one ≢ other) test (names_of pairs) differ) in
-    let match = subst (All (λ name. matches pattern name ≡ true)) (sym (names_filter (matches pattern) pairs))
-    (filter_passes (matches pattern) (names_of pairs)) in
-    let none = all_turned (λ name. test name ≡ true) patterns behind (subst (All (λ name. test name ≡ true))
+    let match = subst (All (λ name. own name ≡ true)) (sym (names_filter own pairs))
+    (filter_passes own (names_of pairs)) in
+    let none = all_turned (λ name. test name ≡ true) tests behind (subst (All (λ name. test name ≡ true))
     (sym (names_filter test pairs)) (filter_passes test (names_of pairs))) in
-    subst Differ (sym (map-append (λ (pair : List ℕ × List ℕ). pair.0) front (ordered patterns behind)))
-    (pairs_append (λ one other. one ≢ other) (names_of front) (names_of (ordered patterns behind)) first
-    (differ_turned patterns behind others)
+    subst Differ (sym (map-append (λ (pair : List ℕ × List ℕ). pair.0) front (ranked tests behind)))
+    (pairs_append (λ one other. one ≢ other) (names_of front) (names_of (ranked tests behind)) first
+    (differ_turned tests behind others)
     (λ one other here there same.
-    let matched = All-contains (λ name. matches pattern name ≡ true) (names_of front) one match here in
-    let unmatched = All-contains (λ name. test name ≡ true) (names_of (ordered patterns behind)) other none there in
+    let matched = All-contains (λ name. own name ≡ true) (names_of front) one match here in
+    let unmatched = All-contains (λ name. test name ≡ true) (names_of (ranked tests behind)) other none there in
     false≢true (sym (ap not matched) ∙ ap test same ∙ unmatched)))
 
 -- names that differ still do

@@ -1,16 +1,13 @@
--- Pairs sorted by the number of the first pattern that matches are the pairs pattern by pattern.
+-- Pairs sorted by the number of the first test that they pass are the pairs test by test.
 use Rattle.std.proofs.Common.{◌≡◌, ◌==◌, ℕ, suc, ◌+◌, ◌≤◌, List, [], ◌∷◌, ◌++◌, Bool, true, false, cond, not}
-use Rattle.std.proofs.Common.{All, AllPairs, get_or, length, ◌<◌, refl, sym, ap, ◌∙◌, arith}
+use Rattle.std.proofs.Common.{All, AllPairs, get_or, refl, sym, ap, ◌∙◌, arith}
 use Rattle.std.proofs.lemmas.Bool.Decides.{nat_tests}
 use Rattle.std.proofs.lemmas.List.Elements.{All-head, All-tail, All-nil, All-cons}
 use Rattle.std.proofs.lemmas.List.Kept.{AllPairs-cons}
-use Rattle.std.proofs.lemmas.List.Sums.{position_or_len_is}
 use Rattle.std.specs.List.{filter}
 use Rattle.jm_bytes.proofs.Pairs.{pairs_none, pairs_head, pairs_tail, pairs_weaker}
 use Rattle.jm_bytes.proofs.SameOrder.{filter_same}
-use Rattle.jm_pattern.specs.declared.signs.Sign.{Sign}
-use Rattle.jm_pattern.specs.ComputedMatching.{matches}
-use Rattle.jm_plugins.specs.Matching.{ordered}
+use Rattle.jm_plugins.specs.Matching.{ranked}
 use Rattle.jm_plugins.specs.Steps.{rank}
 
 -- Filters
@@ -84,63 +81,63 @@ module _ {X : Type 0} where
 
 -- Ranks
 
-pub rank_first : (p : List Sign) (ps : List (List Sign)) (name : List ℕ) → matches p name ≡ true → rank (p ∷ ps) name ≡ 0
+pub rank_first : (p : List ℕ → Bool) (ps : List (List ℕ → Bool)) (name : List ℕ) → p name ≡ true → rank (p ∷ ps) name ≡ 0
 rank_first p ps name is = rw is refl
 
-pub rank_later : (p : List Sign) (ps : List (List Sign)) (name : List ℕ) → matches p name ≡ false → rank (p ∷ ps) name ≡ rank ps name + 1
+pub rank_later : (p : List ℕ → Bool) (ps : List (List ℕ → Bool)) (name : List ℕ) → p name ≡ false → rank (p ∷ ps) name ≡ rank ps name + 1
 rank_later p ps name is = rw is (omega arith)
 
-first_test : (p : List Sign) (ps : List (List Sign)) (name : List ℕ) → matches p name ≡ (rank (p ∷ ps) name == 0)
-first_test p ps name = go (matches p name) refl
+first_test : (p : List ℕ → Bool) (ps : List (List ℕ → Bool)) (name : List ℕ) → p name ≡ (rank (p ∷ ps) name == 0)
+first_test p ps name = go (p name) refl
   where
-    go : (b : Bool) → matches p name ≡ b → matches p name ≡ (rank (p ∷ ps) name == 0)
+    go : (b : Bool) → p name ≡ b → p name ≡ (rank (p ∷ ps) name == 0)
     go true is = rw (rank_first p ps name is, is) refl
     go false is = rw (rank_later p ps name is, is) (grind (arith, nat_tests))
 
-later_test : (p : List Sign) (ps : List (List Sign)) (i : ℕ) (name : List ℕ) → cond (not (matches p name)) (rank ps name == i) false
+later_test : (p : List ℕ → Bool) (ps : List (List ℕ → Bool)) (i : ℕ) (name : List ℕ) → cond (not (p name)) (rank ps name == i) false
     ≡ (rank (p ∷ ps) name == suc i)
-later_test p ps i name = go (matches p name) refl
+later_test p ps i name = go (p name) refl
   where
-    go : (b : Bool) → matches p name ≡ b → cond (not (matches p name)) (rank ps name == i) false ≡ (rank (p ∷ ps) name == suc i)
+    go : (b : Bool) → p name ≡ b → cond (not (p name)) (rank ps name == i) false ≡ (rank (p ∷ ps) name == suc i)
     go true is = rw (rank_first p ps name is, is) (grind (arith, nat_tests))
     go false is = rw (rank_later p ps name is, is) (grind (arith, nat_tests))
 
-above : (p : List Sign) (ps : List (List Sign)) (one other : List ℕ) → rank (p ∷ ps) one ≤ rank (p ∷ ps) other → matches p other
-    ≡ true → matches p one ≡ true
-above p ps one other up is = go (matches p one) refl
+above : (p : List ℕ → Bool) (ps : List (List ℕ → Bool)) (one other : List ℕ) → rank (p ∷ ps) one ≤ rank (p ∷ ps) other → p other
+    ≡ true → p one ≡ true
+above p ps one other up is = go (p one) refl
   where
-    go : (b : Bool) → matches p one ≡ b → matches p one ≡ true
+    go : (b : Bool) → p one ≡ b → p one ≡ true
     go true here = here
     go false here =
         let none = rank_first p ps other is in
         let some = rank_later p ps one here in
         absurd (omega (arith, up, none, some))
 
-among : (p : List Sign) (ps : List (List Sign)) (one other : List ℕ) → not (matches p one) ≡ true → not (matches p other) ≡ true
+among : (p : List ℕ → Bool) (ps : List (List ℕ → Bool)) (one other : List ℕ) → not (p one) ≡ true → not (p other) ≡ true
     → rank (p ∷ ps) one ≤ rank (p ∷ ps) other → rank ps one ≤ rank ps other
 among p ps one other here there up =
-    let first = rank_later p ps one (turned (matches p one) here) in
-    let second = rank_later p ps other (turned (matches p other) there) in
+    let first = rank_later p ps one (turned (p one) here) in
+    let second = rank_later p ps other (turned (p other) there) in
     omega (arith, up, first, second)
   where
     turned : (b : Bool) → not b ≡ true → b ≡ false
     turned true e = cc
     turned false e = refl
 
--- pairs whose ranks don't fall, those of each rank as they stand in a list, are that list pattern by
--- pattern
-pub ordered_is : (patterns : List (List Sign)) (sorted pairs : List (List ℕ × List ℕ)) → AllPairs (λ one later. rank patterns one.0
-    ≤ rank patterns later.0) sorted
-    → ((i : ℕ) → filter (λ pair. rank patterns pair.0 == i) sorted ≡ filter (λ pair. rank patterns pair.0 == i) pairs) → sorted
-    ≡ ordered patterns pairs
-ordered_is [] sorted pairs rises same = sym (filter_all (λ pair. true) (λ pair. refl) sorted) ∙ same 0
+-- pairs whose ranks don't fall, those of each rank as they stand in a list, are that list test by
+-- test
+pub ranked_is : (tests : List (List ℕ → Bool)) (sorted pairs : List (List ℕ × List ℕ)) → AllPairs (λ one later. rank tests one.0
+    ≤ rank tests later.0) sorted
+    → ((i : ℕ) → filter (λ pair. rank tests pair.0 == i) sorted ≡ filter (λ pair. rank tests pair.0 == i) pairs) → sorted
+    ≡ ranked tests pairs
+ranked_is [] sorted pairs rises same = sym (filter_all (λ pair. true) (λ pair. refl) sorted) ∙ same 0
     ∙ filter_all (λ pair. true) (λ pair. refl) pairs
-ordered_is (p ∷ ps) sorted pairs rises same =
-    let here = λ (pair : List ℕ × List ℕ). matches p pair.0 in
-    let there = λ (pair : List ℕ × List ℕ). not (matches p pair.0) in
+ranked_is (p ∷ ps) sorted pairs rises same =
+    let here = λ (pair : List ℕ × List ℕ). p pair.0 in
+    let there = λ (pair : List ℕ × List ℕ). not (p pair.0) in
     let zeroth = λ (pair : List ℕ × List ℕ). rank (p ∷ ps) pair.0 == 0 in
     let whole = parted here there (λ pair. refl) sorted (pairs_weaker (λ one later. rank (p ∷ ps) one.0 ≤ rank (p ∷ ps) later.0)
-    (λ one later. matches p later.0 ≡ true → matches p one.0 ≡ true) (λ one later up. above p ps one.0 later.0 up) sorted rises) in
+    (λ one later. p later.0 ≡ true → p one.0 ≡ true) (λ one later up. above p ps one.0 later.0 up) sorted rises) in
     let front : filter here sorted ≡ filter here pairs =
     filter_alike here zeroth (λ pair. first_test p ps pair.0) sorted ∙ same 0
     ∙ sym (filter_alike here zeroth (λ pair. first_test p ps pair.0) pairs) in
@@ -150,11 +147,5 @@ ordered_is (p ∷ ps) sorted pairs rises same =
     (λ pair. later_test p ps i pair.0) sorted ∙ same (suc i)
     ∙ sym (filter_both (λ pair. rank ps pair.0 == i) there (λ pair. rank (p ∷ ps) pair.0 == suc i) (λ pair. later_test p ps i
     pair.0) pairs) in
-    let back = ordered_is ps (filter there sorted) (filter there pairs) left kept in
+    let back = ranked_is ps (filter there sorted) (filter there pairs) left kept in
     whole ∙ ap (λ l. l ++ filter there sorted) front ∙ ap (λ l. filter here pairs ++ l) back
-
--- the first pattern that matches, or none
-pub rank_here : (patterns : List (List Sign)) (name : List ℕ) (i : ℕ) → i ≤ length patterns
-    → ((k : ℕ) → k < i → matches (get_or patterns k []) name ≡ false) → (i < length patterns → matches (get_or patterns i []) name
-    ≡ true) → rank patterns name ≡ i
-rank_here patterns name i within before here = position_or_len_is (λ pattern. matches pattern name) patterns i [] within before here

@@ -45,6 +45,14 @@ order_in_pool = refl
 order_turned : apply 21 (plugin.Order (below_a ∷ named_b ∷ []) ∷ []) (pool []) ≡ Ok (pool [])
 order_turned = refl
 
+-- names that the pool hasn't give nothing, a name counts where it stands first, and others come last, as they stood
+kept_in_pool : apply 21 (plugin.KeepOrder (codes "/b/y" ∷ codes "/c" ∷ codes "/a/x" ∷ codes "/b/y" ∷ []) ∷ []) (pool [])
+    ≡ Ok ((codes "/b/y", []) ∷ (codes "/a/x", with_file) ∷ (codes "/a/B.class", []) ∷ (codes "/b/B.class", []) ∷ [])
+kept_in_pool = refl
+
+none_kept : apply 21 (plugin.KeepOrder [] ∷ []) (pool []) ≡ Ok (pool [])
+none_kept = refl
+
 excluded_in_pool : apply 21 (plugin.Exclude (named_b ∷ below_a ∷ []) ∷ []) (pool []) ≡ Ok ((codes "/b/y", []) ∷ [])
 excluded_in_pool = refl
 

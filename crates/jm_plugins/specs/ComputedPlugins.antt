@@ -11,7 +11,7 @@ use Rattle.jm_strip.specs.Strip.{strip}
 use Rattle.jm_words.specs.declared.tasks.Plugin.{Plugin}
 use Rattle.jm_words.specs.declared.tasks.Plugin.TheVariants as plugin
 use Rattle.jm_plugins.specs.declared.chain.BadClass.{BadClass}
-use Rattle.jm_plugins.specs.Matching.{excluded, ordered}
+use Rattle.jm_plugins.specs.Matching.{excluded, kept, ordered}
 use Rattle.jm_plugins.specs.Packaging.{is_descriptor, listing_text}
 use Rattle.jm_plugins.specs.Plugins.{Pairs, is_class}
 use Rattle.jm_plugins.specs.SystemModules.{without_system_modules}
@@ -50,6 +50,7 @@ stripped_text class = class_text (strip class)
 abbrev pub act : ℕ → Plugin → Pairs → Result Pairs BadClass
 act release (plugin.Exclude patterns) pairs = Ok (excluded patterns pairs)
 act release (plugin.Order patterns) pairs = Ok (ordered patterns pairs)
+act release (plugin.KeepOrder names) pairs = Ok (kept names pairs)
 act release plugin.Strip pairs = remade_pairs release is_class (λ name. stripped_text) pairs
 act release plugin.Compact pairs = remade_pairs release is_class (λ name. compact_text) pairs
 act release plugin.Packages pairs =

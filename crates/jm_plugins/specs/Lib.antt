@@ -1,5 +1,6 @@
 pub mod ComputedPlugins
 pub mod Matching
+pub mod Numbered
 pub mod Packaging
 pub mod Plugins
 pub mod Steps

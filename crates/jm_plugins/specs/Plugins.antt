@@ -12,7 +12,7 @@ use Rattle.jm_strip.specs.Strip.{strip}
 use Rattle.jm_words.specs.declared.tasks.Plugin.{Plugin}
 use Rattle.jm_words.specs.declared.tasks.Plugin.TheVariants as plugin
 use Rattle.jm_plugins.specs.declared.chain.BadClass.{BadClass}
-use Rattle.jm_plugins.specs.Matching.{excluded, ordered}
+use Rattle.jm_plugins.specs.Matching.{excluded, kept, ordered}
 use Rattle.jm_plugins.specs.Packaging.{is_descriptor, listing_text}
 use Rattle.jm_plugins.specs.SystemModules.{without_system_modules}
 
@@ -57,6 +57,7 @@ AreMadeAnew release takes IsRight pairs (Err refusal) = IsFirstBad release takes
 abbrev pub Makes : ℕ → Plugin → Pairs → Result Pairs BadClass → Type 0
 Makes release (plugin.Exclude patterns) pairs result = result ≡ Ok (excluded patterns pairs)
 Makes release (plugin.Order patterns) pairs result = result ≡ Ok (ordered patterns pairs)
+Makes release (plugin.KeepOrder names) pairs result = result ≡ Ok (kept names pairs)
 Makes release plugin.Strip pairs result =
     AreMadeAnew release is_class (λ name c text. text ≡ class_text (strip c)) pairs result
 Makes release plugin.Compact pairs result =

@@ -1,14 +1,15 @@
 -- How far the plug-ins have come (words of the proof).
 use Rattle.std.specs.Prelude.{ℕ, ◌≡◌, ◌+◌, ◌⊎◌, List, [], ◌∷◌, Some, Result, Ok, Err, Bool}
-use Rattle.std.specs.Prelude.{All, true, slice_get, slice_index_or, if◌then◌else◌}
+use Rattle.std.specs.Prelude.{All, true, map, nat_lt, slice_get, slice_index_or}
+use Rattle.std.specs.Prelude.{if◌then◌else◌}
 use Rattle.std.specs.List.{position_or_len}
+use Rattle.std.specs.Str.{bytes_eq}
 use Rattle.jm_bytes.specs.declared.faults.Or.{Or}
 use Rattle.jm_bytes.specs.declared.faults.Or.TheVariants.{Fault, Memory}
 use Rattle.jm_class.specs.Classes.{ClassData}
 use Rattle.jm_class.specs.Releases.{ReadsFor, class_for}
 use Rattle.jm_class.specs.declared.class.ClassFault.{ClassFault}
-use Rattle.jm_pattern.specs.declared.signs.Sign.{Sign}
-use Rattle.jm_pattern.specs.ComputedMatching.{matches, matches_any}
+use Rattle.jm_pattern.specs.ComputedMatching.{matches}
 use Rattle.jm_compact.specs.Compact.{compact_text}
 use Rattle.jm_form.specs.Trees.{module_of}
 use Rattle.jm_packages.specs.Packages.{packages_text}
@@ -19,14 +20,21 @@ use Rattle.jm_plugins.specs.declared.classes.Remaking.{Remaking}
 use Rattle.jm_plugins.specs.declared.classes.Remaking.TheVariants as remaking
 use Rattle.jm_plugins.specs.declared.exclusion.Dropping.{Dropping}
 use Rattle.jm_plugins.specs.declared.exclusion.Dropping.TheVariants as dropping
+use Rattle.jm_plugins.specs.declared.order.Ranking.{Ranking}
+use Rattle.jm_plugins.specs.declared.order.Ranking.TheVariants as ranking
 use Rattle.jm_plugins.specs.Packaging.{is_descriptor, listing_text, packages_by}
 use Rattle.jm_plugins.specs.ComputedPlugins.{bad_class, stripped_text}
 use Rattle.jm_plugins.specs.Plugins.{is_class}
 use Rattle.jm_plugins.specs.SystemModules.{is_system_modules}
 
--- the number of the first pattern that matches the name, or how many patterns there are
-abbrev pub rank : List (List Sign) → List ℕ → ℕ
-rank patterns name = position_or_len (λ pattern. matches pattern name) patterns
+-- the number of the first test that a name passes, or how many tests there are
+abbrev pub rank : List (List ℕ → Bool) → List ℕ → ℕ
+rank tests name = position_or_len (λ test. test name) tests
+
+-- the tests of one of the ways: that a pattern matches, or that it is a name
+abbrev pub tests_of : Ranking → List (List ℕ → Bool)
+tests_of (ranking.Patterns index) = map matches index.now
+tests_of (ranking.Names index) = map bytes_eq index.now
 
 -- the places of the pairs whose name is taken, where the first pair has a given place
 abbrev pub class_places : (List ℕ → Bool) → ℕ → List (List ℕ × List ℕ) → List ℕ
@@ -37,7 +45,8 @@ class_places takes at (pair ∷ pairs) =
 
 -- a name is dropped by one of the ways
 abbrev pub is_dropped : Dropping → List ℕ → Bool
-is_dropped (dropping.Matched patterns) name = matches_any patterns.now name
+is_dropped (dropping.Matched index count) name =
+    nat_lt (position_or_len (λ pattern. matches pattern name) index.now) count
 is_dropped dropping.SystemModules name = is_system_modules name
 
 -- which names one of the ways takes

@@ -1,21 +1,20 @@
--- In which order the pairs of a pool come by their patterns (words of the proof).
-use Rattle.std.specs.Prelude.{ℕ, ◌≡◌, ◌==◌, ◌≤◌, List, Some, length, map, filter, slice_get}
-use Rattle.std.specs.Prelude.{IsPermutation}
+-- In which order the pairs of a pool come by their ranks (words of the proof).
+use Rattle.std.specs.Prelude.{ℕ, ◌≡◌, ◌==◌, ◌≤◌, Bool, List, Some, length, map, filter}
+use Rattle.std.specs.Prelude.{slice_get, IsPermutation}
 use Rattle.std.specs.List.{range_with_len, AllZip, AllPairs}
-use Rattle.jm_pattern.specs.declared.signs.Sign.{Sign}
 use Rattle.jm_plugins.specs.declared.order.Turn.{Turn}
 use Rattle.jm_plugins.specs.Steps.{rank}
 
 -- the turn of a pair
-abbrev pub IsTurn : List (List Sign) → List (List ℕ × List ℕ) → List ℕ × List ℕ → Turn → Type 0
-IsTurn patterns pairs pair turn =
-    (slice_get pairs turn.place ≡ Some pair) × (turn.rank ≡ rank patterns pair.0)
+abbrev pub IsTurn : List (List ℕ → Bool) → List (List ℕ × List ℕ) → List ℕ × List ℕ → Turn → Type 0
+IsTurn tests pairs pair turn =
+    (slice_get pairs turn.place ≡ Some pair) × (turn.rank ≡ rank tests pair.0)
 
 -- the turns of all pairs, in their order
-pub record AreTurns (patterns : List (List Sign)) (pairs : List (List ℕ × List ℕ))
+pub record AreTurns (tests : List (List ℕ → Bool)) (pairs : List (List ℕ × List ℕ))
     (turns : List Turn) : Type 0 where
   pub places : map (λ turn. turn.place) turns ≡ range_with_len 0 (length pairs)
-  pub ranks : AllZip (IsTurn patterns pairs) pairs turns
+  pub ranks : AllZip (IsTurn tests pairs) pairs turns
 
 -- the same turns by rank, those of one rank in their order
 pub record IsByRank (turns sorted : List Turn) : Type 0 where

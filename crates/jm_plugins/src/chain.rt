@@ -3,8 +3,8 @@ ghost use Rattle.jm_bytes.specs.Results.{IfAnswered};
 ghost use Rattle.jm_plugins.specs.Plugins.{Applies, Makes};
 
 use crate::classes::{Remaking, remake_classes};
-use crate::exclusion::{Dropping, drop_named};
-use crate::order::order;
+use crate::exclusion::drop_matched;
+use crate::order::{keep_order, order_matched};
 use crate::packages::list_packages;
 use crate::system_modules::drop_system_modules;
 use jm_bytes::{Or, Text};
@@ -34,10 +34,9 @@ fn act<R: Threads + Sync, G: Gate + Sync>(
     ensures { IfAnswered (Makes release plugin.now pool) result }
 {
     match plugin {
-        Plugin::Exclude(patterns) => {
-            Ok(drop_named(workers, pool, Dropping::Matched(patterns.as_slice()))?)
-        }
-        Plugin::Order(patterns) => Ok(order(workers, pool, patterns.as_slice())?),
+        Plugin::Exclude(patterns) => Ok(drop_matched(workers, pool, patterns.as_slice())?),
+        Plugin::Order(patterns) => Ok(order_matched(workers, pool, patterns.as_slice())?),
+        Plugin::KeepOrder(names) => Ok(keep_order(workers, pool, names.as_slice())?),
         Plugin::Strip => remake_classes(workers, release, pool, Remaking::Strip),
         Plugin::Compact => remake_classes(workers, release, pool, Remaking::Compact),
         Plugin::Packages => list_packages(workers, release, pool),

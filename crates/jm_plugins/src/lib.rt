@@ -4,6 +4,7 @@
 mod chain;
 mod classes;
 mod exclusion;
+mod names;
 mod order;
 mod packages;
 mod places;

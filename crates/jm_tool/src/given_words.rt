@@ -7,8 +7,8 @@ use std::env::{Args, Env, FillError};
 use std::io::ErrorKind;
 use std::{env, str};
 
-/// The words behind the program's name, or the status that the program ends with. A word that isn't
-/// UTF-8 is a faulty command line: one line with its number goes to the standard error.
+/// The words after the program's name, or the status that the program ends with. A word that isn't
+/// UTF-8 is a faulty command line: a line with its number goes to the standard error, and a hint.
 pub fn given_words(rt: &HostRuntime) -> Result<Vec<String>, Status> {
     match env::args(rt) {
         Ok(args) => match words_of(rt.alloc(), args) {
@@ -31,13 +31,16 @@ fn out_of_memory(rt: &HostRuntime) -> Status {
     Status::Memory
 }
 
-/// Puts the line on the first word that isn't UTF-8.
+/// Puts the line on the first word that isn't UTF-8, and then the hint.
 fn refuse_word(rt: &HostRuntime) -> Status {
     let Ok(line) = bad_word_line(rt) else {
         return out_of_memory(rt);
     };
     match StdSink::new(rt.stderr()).put(rt.alloc(), line.as_bytes()) {
-        Ok(()) => Status::Words,
+        Ok(()) => {
+            put(rt, b"hint: that word isn't UTF-8, and each word must be\n");
+            Status::Words
+        }
         Err(SinkError::Failed) => Status::Outside,
         Err(SinkError::Memory) => Status::Memory,
     }

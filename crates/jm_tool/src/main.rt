@@ -4,18 +4,23 @@
 mod descriptors;
 mod failures;
 mod given_words;
-mod usage;
+mod hint;
+mod items;
+mod kept_line;
+mod told;
+mod words_hint;
 
 use descriptors::hold_streams;
-use failures::{put, put_line, shelf_line, stream_line};
+use failures::{FailureLine, put, put_line};
 use given_words::given_words;
+use hint::hint_line;
 use jm_commands::{Status, run};
 use jm_disk::FileShelf;
 use jm_halves::NoGate;
 use jm_outside::{StdSink, StdSource};
+use kept_line::KeptLine;
 use std::io;
 use std::process::ExitCode;
-use usage::put_usage;
 
 fn main(rt: HostRuntime) -> ExitCode {
     if !hold_streams(&rt) {
@@ -24,18 +29,14 @@ fn main(rt: HostRuntime) -> ExitCode {
     }
     let words = match given_words(&rt) {
         Ok(words) => words,
-        Err(status) => {
-            if status == Status::Words {
-                put_usage(&rt);
-            }
-            return ExitCode::from(status.value());
-        }
+        Err(status) => return ExitCode::from(status.value()),
     };
     let alloc = rt.alloc();
+    let mut line = FailureLine::new(alloc);
     let mut shelf = FileShelf::new(&rt);
     let mut input = StdSource::new(rt.reader());
     let mut out = StdSink::new(io::writer(&rt));
-    let mut err = StdSink::new(rt.stderr());
+    let mut err = KeptLine::new(StdSink::new(rt.stderr()));
     let words = words.as_slice();
     let status = run(
         &rt, alloc, words, &mut shelf, &mut input, &mut out, &mut err, &NoGate,
@@ -44,20 +45,16 @@ fn main(rt: HostRuntime) -> ExitCode {
         shelf.give_up();
     }
     match status {
-        Status::Words => put_usage(&rt),
+        Status::Words | Status::Refused | Status::Damaged | Status::NotThere => {
+            put_line(&rt, hint_line(alloc, words, err.line(), &mut shelf));
+        }
         Status::Outside => {
-            put_line(&rt, shelf_line(alloc, shelf.last_failure()));
-            put_line(
-                &rt,
-                stream_line(alloc, "standard input", input.last_failure()),
-            );
-            put_line(
-                &rt,
-                stream_line(alloc, "standard output", out.last_failure()),
-            );
+            line.put_of_shelf(&rt, shelf.last_failure());
+            line.put_of_stream(&rt, "standard input", input.last_failure());
+            line.put_of_stream(&rt, "standard output", out.last_failure());
         }
         Status::Memory => put(&rt, b"out of memory\n"),
-        _ => {}
+        Status::Done | Status::Session => {}
     }
     ExitCode::from(status.value())
 }

@@ -6,6 +6,7 @@ use jm_bytes::Text;
 use jm_disk::FileShelf;
 use jm_outside::{Shelf, StdSink, StdSource};
 use std::alloc::Global;
+use std::fs::File;
 use std::os::unix::fs::symlink;
 use std::rt::{Env, Files};
 use std::test::Fail;
@@ -30,11 +31,12 @@ fn remove<R: Env + Files + AllocGlobal>(rt: &R, id: u32) -> Result<(), Fail> {
 }
 
 /// Links to a file, to folders, to nothing, to a device and to the folder in which the link stands,
-/// and a file as a run that was stopped leaves it.
+/// and a file and a folder as a run that was stopped leaves them.
 fn make_links<R: Files>(rt: &R) -> io::Result<()> {
-    for folder in ["d/empty", "gone", "ring", "device", "left"] {
+    for folder in ["d/empty", "gone", "ring", "device", "left", "begun"] {
         fs::create_dir(rt, folder)?;
     }
+    fs::create_dir(rt, "begun/x.jm_tool-0")?;
     fs::write(rt, "left/x.jm_tool-12", "")?;
     symlink(rt, "a b", "d/link")?;
     symlink(rt, "a/b", "d/way")?;
@@ -121,6 +123,11 @@ const SCRIPTS: &[(&str, &[&str], Option<&str>)] = &[
         Some("left/x.jm_tool-12: an unfinished file of a run that was stopped"),
     ),
     (
+        "so is an unfinished folder",
+        &["the folder is no list|names|begun||!"],
+        Some("begun/x.jm_tool-0: an unfinished file of a run that was stopped"),
+    ),
+    (
         "a path that ends in no name makes no folder",
         NAMELESS,
         Some("none/: neither a file nor a link to one"),
@@ -168,7 +175,7 @@ const SCRIPTS: &[(&str, &[&str], Option<&str>)] = &[
 /// The bytes of a file while it is made over another one; then, when it was given up, whether it is
 /// there and the bytes of the other one. Of a file where none was, whether one is there while it is
 /// made, and when it was given up; and the bytes of one that took its name.
-fn given_up<R: Files + AllocGlobal>(rt: &R) -> Result<String, Fail> {
+fn given_up<R: Files<File = File> + AllocGlobal>(rt: &R) -> Result<String, Fail> {
     let alloc = rt.alloc();
     let mut shelf = FileShelf::new(rt);
     shelf.create(alloc, b"d/a b")?;
@@ -189,7 +196,7 @@ fn given_up<R: Files + AllocGlobal>(rt: &R) -> Result<String, Fail> {
 }
 
 /// The length of the file `open`, a space, and what it has of the three bytes from its second on.
-fn open_now<R: Files + AllocGlobal>(
+fn open_now<R: Files<File = File> + AllocGlobal>(
     alloc: Global,
     shelf: &mut FileShelf<'_, R>,
 ) -> Result<String, Fail> {
@@ -201,9 +208,9 @@ fn open_now<R: Files + AllocGlobal>(
 }
 
 /// What that file has; then, when it got shorter, whether a part fails that its length promised,
-/// and what it has by its new length; when another file has its name, and a third one was made; and
-/// when the third one's length was asked.
-fn kept_open<R: Files + AllocGlobal>(rt: &R) -> Result<String, Fail> {
+/// and what it has by its new length; what it has when another file has its name and a third one
+/// was made; and, when the third one's length was asked, whether the other file is refused.
+fn kept_open<R: Files<File = File> + AllocGlobal>(rt: &R) -> Result<String, Fail> {
     let alloc = rt.alloc();
     let mut shelf = FileShelf::new(rt);
     fs::write(rt, "open", "abcdef")?;
@@ -218,8 +225,8 @@ fn kept_open<R: Files + AllocGlobal>(rt: &R) -> Result<String, Fail> {
     shelf.finish(alloc)?;
     let same = open_now(alloc, &mut shelf)?;
     shelf.length(alloc, b"third")?;
-    let other = open_now(alloc, &mut shelf)?;
-    Ok(format!(in alloc; "{whole}, {is_lost}, {shorter}, {same}, {other}")?)
+    let is_refused = shelf.length(alloc, b"open").is_err();
+    Ok(format!(in alloc; "{whole}, {is_lost}, {shorter}, {same}, {is_refused}")?)
 }
 
 #[test]
@@ -237,7 +244,7 @@ fn the_system_keeps_files(rt: HostRuntime) -> Result<(), Fail> {
         assert_eq!(rt; shelf.last_failure(), *failure, "{shows}");
     }
     assert_eq!(rt; given_up(&rt)?.as_str(), "55555 false 333 false false 1");
-    assert_eq!(rt; kept_open(&rt)?.as_str(), "6 bcd, true, 2 b, 2 b, 6 234");
+    assert_eq!(rt; kept_open(&rt)?.as_str(), "6 bcd, true, 2 b, 2 b, true");
     let mut sink = StdSink::new(fs::create(&rt, "stream")?);
     assert_eq!(rt; put_marks(rt.alloc(), &mut sink)?.as_str(), "...");
     let mut source = StdSource::new(fs::open(&rt, "stream")?);

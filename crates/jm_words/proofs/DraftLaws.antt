@@ -10,7 +10,7 @@ use Rattle.jm_words.specs.declared.drafts.Draft.{Draft}
 use Rattle.jm_words.specs.declared.given.Value.{Value}
 use Rattle.jm_words.specs.declared.tables.Field.{Field}
 use Rattle.jm_words.specs.declared.tasks.Plugin.{Plugin}
-use Rattle.jm_words.specs.Drafts.{LeavesOthers, draft_of, the, with_given}
+use Rattle.jm_words.specs.Drafts.{LeavesOthers, draft_of, kept_with, the, with_given}
 use Rattle.jm_words.specs.Givens.{Given, plugin_in}
 use Rattle.jm_words.specs.Reading.{with_word}
 use Rattle.jm_words.specs.Tables.{same_field}
@@ -37,10 +37,15 @@ others_left field v (g ∷ values) (suc i) d e below same other differs =
     go true e rest = rw e refl
     go false e rest = rw e rest
 
--- all that is given, with what one word more gives
-pub draft_of_more : (givens : List Given) (o : Option Given) → draft_of (givens ++ cons_option o []) ≡ with_word (draft_of givens) o
-draft_of_more givens None = ap (λ (gs : List Given). draft_of gs) (append-nil givens)
-draft_of_more givens (Some g) =
+kept_none : (at : ℕ) (kept : Option ℕ) → kept_with at None kept ≡ kept
+kept_none at None = refl
+kept_none at (Some first) = refl
+
+-- all that is given, with what the word of a number gives besides
+pub draft_of_more : (at : ℕ) (kept : Option ℕ) (givens : List Given) (o : Option Given)
+    → draft_of (kept_with at o kept) (givens ++ cons_option o []) ≡ with_word at (draft_of kept givens) o
+draft_of_more at kept givens None = rw (append-nil givens, kept_none at kept) refl
+draft_of_more at kept givens (Some g) =
     rw (filter-append is_value givens (g ∷ []), filter_map-append plugin_in givens (g ∷ [])) (go (plugin_in g) refl)
   where
     is_value : Given → Bool
@@ -49,6 +54,7 @@ draft_of_more givens (Some g) =
     go : (o : Option Plugin) → plugin_in g ≡ o → ◌≡◌ {A = Draft} (record {
       values = filter is_value givens ++ filter is_value (g ∷ []);
       plugins = filter_map plugin_in givens ++ filter_map plugin_in (g ∷ []);
-    }) (with_given (draft_of givens) g)
+      kept_at = kept_with at (Some g) kept;
+    }) (with_given at (draft_of kept givens) g)
     go None e = rw (e, append-nil (filter_map plugin_in givens)) refl
     go (Some plugin) e = rw (e, append-nil (filter is_value givens)) refl

@@ -1,10 +1,12 @@
 -- What stands at a place and at the next one, and how the words are read from place to place.
-use Rattle.std.proofs.Common.{◌≡◌, ℕ, zero, suc, ◌+◌, ◌<◌, Bool, cond, List, [], ◌∷◌, ◌++◌, length, get_or, drop, map}
+use Rattle.std.proofs.Common.{◌≡◌, ℕ, zero, suc, ◌+◌, ◌<◌, Bool, true, false, cond, List, [], ◌∷◌, ◌++◌, length, get_or, drop, map}
 use Rattle.std.proofs.Common.{Option, Some, None, Result, Ok, Err, refl, sym, ap, ◌∙◌, subst, arith}
-use Rattle.std.specs.Prelude.{count_by}
-use Rattle.std.specs.List.{filter_map, cons_option, range_with_len}
+use Rattle.std.specs.Prelude.{count_by, option_map}
+use Rattle.std.specs.Option.{option_or}
+use Rattle.std.specs.List.{filter_map, cons_option, find, range_with_len}
 use Rattle.std.proofs.lemmas.List.{drop-drop, get_or-map, length-map}
 use Rattle.std.proofs.lemmas.List.Elements.{filter_map-append}
+use Rattle.std.proofs.lemmas.List.Folds.{find-append}
 use Rattle.std.proofs.lemmas.List.FromFn.{map-range_with_len_more}
 use Rattle.std.proofs.lemmas.List.Sums.{fold-append}
 use Rattle.std.proofs.lemmas.Option.{unwrap_or-slice_get}
@@ -17,11 +19,12 @@ use Rattle.jm_bytes.specs.declared.faults.Or.TheVariants.{Fault, Memory}
 use Rattle.jm_words.specs.declared.drafts.Draft.{Draft}
 use Rattle.jm_words.specs.declared.errors.WordsFault.{WordsFault}
 use Rattle.jm_words.specs.declared.tables.Verb.{Verb}
-use Rattle.jm_words.specs.Drafts.{draft_of}
+use Rattle.jm_words.specs.Drafts.{asks_order, draft_of, kept_with}
 use Rattle.jm_words.specs.Givens.{Given}
 use Rattle.jm_words.specs.Reading.{Standing, after_role, after_sound, left_behind, pending_at, standing_at, with_word}
 use Rattle.jm_words.specs.Roles.{Role, Unknown, Flag, Waits, WithValue, ValueFor, AsArgument, is_argument, role_of}
-use Rattle.jm_words.specs.Rule.{draft_before, draft_given, fault_before, fault_of, given_at, givens_before, left_at, role_at}
+use Rattle.jm_words.specs.Rule.{draft_before, draft_given, fault_before, fault_of, given_at, givens_before, kept_before, left_at}
+use Rattle.jm_words.specs.Rule.{role_at}
 use Rattle.jm_words.specs.Rule.{roles_before, word_at}
 use Rattle.jm_words.specs.Tables.{Row, arguments, options}
 use Rattle.jm_words.proofs.DraftLaws.{draft_of_more}
@@ -48,10 +51,36 @@ module _ (verb : Verb) (words : List (List ℕ)) where
       ∙ ap (λ (j : ℕ). filter_map (given_at verb words) (range_with_len 0 i ++ range_with_len j 1)) same
       ∙ filter_map-append (given_at verb words) (range_with_len 0 i) (i ∷ [])
 
-  draft_more : (i : ℕ) → draft_before verb words (suc i) ≡ with_word (draft_before verb words i) (given_at verb words i)
+  asks : ℕ → Bool
+  asks j = asks_order (given_at verb words j)
+
+  -- the first place that asks, or this one
+  first_more : (i : ℕ) (found : Option ℕ) → option_map (λ j. j + 2) (option_or found (find asks (i ∷ [])))
+      ≡ kept_with (i + 2) (given_at verb words i) (option_map (λ j. j + 2) found)
+  unfolding asks
+  first_more i (Some j) = refl
+  first_more i None = go (asks i)
+    where
+      go : (b : Bool) → option_map (λ j. j + 2) (cond b (Some i) None) ≡ cond b (Some (i + 2)) None
+      go true = refl
+      go false = refl
+
+  kept_more : (i : ℕ) → kept_before verb words (suc i) ≡ kept_with (i + 2) (given_at verb words i) (kept_before verb words i)
+  unfolding asks
+  kept_more i =
+      let one : suc i ≡ i + 1 = omega arith in
+      let same : 0 + i ≡ i = omega arith in
+      ap (λ n. option_map (λ j. j + 2) (find asks (range_with_len 0 n))) one
+      ∙ ap (λ places. option_map (λ j. j + 2) (find asks places)) (range_with_len-append 0 i 1)
+      ∙ ap (λ (j : ℕ). option_map (λ j. j + 2) (find asks (range_with_len 0 i ++ range_with_len j 1))) same
+      ∙ ap (option_map (λ j. j + 2)) (find-append asks (range_with_len 0 i) (i ∷ []))
+      ∙ first_more i (find asks (range_with_len 0 i))
+
+  draft_more : (i : ℕ) → draft_before verb words (suc i) ≡ with_word (i + 2) (draft_before verb words i) (given_at verb words i)
   draft_more i =
-      ap (λ (givens : List Given). draft_of givens) (givens_more i)
-      ∙ draft_of_more (givens_before verb words i) (given_at verb words i)
+      ap (λ (givens : List Given). draft_of (kept_before verb words (suc i)) givens) (givens_more i)
+      ∙ ap (λ (kept : Option ℕ). draft_of kept (givens_before verb words i ++ cons_option (given_at verb words i) [])) (kept_more i)
+      ∙ draft_of_more (i + 2) (kept_before verb words i) (givens_before verb words i) (given_at verb words i)
 
   left_more : (i : ℕ) → left_at verb words (suc i) ≡ left_behind (left_at verb words i) (role_at verb words i)
   left_more i =
@@ -73,7 +102,7 @@ module _ (verb : Verb) (words : List (List ℕ)) where
       go (ValueFor row text) = none
       go (AsArgument text) = sym (drop-drop 1 taken (arguments verb))
 
-  standing_more : (i : ℕ) → after_sound (standing_at verb words i) (role_at verb words i) ≡ standing_at verb words (suc i)
+  standing_more : (i : ℕ) → after_sound (i + 2) (standing_at verb words i) (role_at verb words i) ≡ standing_at verb words (suc i)
   standing_more i = rw (draft_more i, left_more i) refl
 
   role_here : (i : ℕ) → role_of (options verb) (pending_at verb words i) (word_at words i) ≡ role_at verb words i

@@ -1,5 +1,5 @@
 -- Worked cases of words, computed from the definitions.
-use Rattle.std.proofs.Common.{◌≡◌, false, [], ◌∷◌, ◌++◌, Ok, None, Some, refl}
+use Rattle.std.proofs.Common.{◌≡◌, false, true, [], ◌∷◌, Ok, None, Some, refl}
 use Rattle.std.specs.Prelude.{codes}
 use Rattle.jm_bytes.specs.declared.words.Order.TheVariants.{Little}
 use Rattle.jm_words.specs.declared.tasks.Plugin.TheVariants as plugin
@@ -12,7 +12,6 @@ use Rattle.jm_words.specs.declared.tables.Form.TheVariants as form
 use Rattle.jm_words.specs.declared.tables.Verb.TheVariants as verb
 use Rattle.jm_words.specs.Roles.{AsArgument, Unknown, ValueFor, Waits, fault_at}
 use Rattle.jm_words.specs.Rule.{command_in, fault_of, left_at, role_at}
-use Rattle.jm_words.specs.Help.{usage_text}
 use Rattle.jm_words.specs.Tables.{jobs, row}
 
 no_word : command_in [] ≡ fault_at 0 kind.NoCommand
@@ -100,6 +99,39 @@ link_of_all_modules : command_in (codes "link" ∷ codes "--from-image=i" ∷ co
     })
 link_of_all_modules = refl
 
+order_kept : command_in (codes "link" ∷ codes "--keep-order" ∷ codes "--from-image=i" ∷ codes "--output" ∷ codes "o"
+    ∷ codes "--keep-order" ∷ codes "--add-modules=a" ∷ [])
+    ≡ Ok (record {
+      jobs = 1;
+      task = task.Link (record {
+        source = source.Image (codes "i");
+        roots = codes "a" ∷ [];
+        output = codes "o";
+        plugins = plugin.KeepOrder [] ∷ plugin.KeepOrder [] ∷ [];
+        order = Little;
+        bind = false;
+        release = 21;
+      });
+    })
+order_kept = refl
+
+order_of_no_image : command_in (codes "link" ∷ codes "--module-path=m" ∷ codes "--output" ∷ codes "--keep-order" ∷ codes "--keep-order"
+    ∷ codes "--keep-order" ∷ []) ≡ fault_at 5 kind.BadValue
+order_of_no_image = refl
+
+order_after_other_faults : command_in (codes "link" ∷ codes "--keep-order" ∷ codes "--zap" ∷ []) ≡ fault_at 3 kind.UnknownOption
+order_after_other_faults = refl
+
+order_before_missing : command_in (codes "link" ∷ codes "--keep-order" ∷ []) ≡ fault_at 2 kind.BadValue
+order_before_missing = refl
+
+digests_of_some : command_in (codes "list" ∷ codes "--sha256" ∷ codes "img" ∷ [])
+    ≡ Ok (record { jobs = 1; task = task.Image (codes "img") (work.List None true) })
+digests_of_some = refl
+
+nodes_twice : command_in (codes "verify" ∷ codes "--nodes" ∷ codes "img" ∷ codes "--nodes" ∷ []) ≡ fault_at 4 kind.Repeated
+nodes_twice = refl
+
 option_again_without_value : command_in (codes "cat" ∷ codes "--jobs=2" ∷ codes "--jobs" ∷ []) ≡ fault_at 3 kind.Repeated
 option_again_without_value = refl
 
@@ -151,10 +183,3 @@ value_at_end = refl
 
 sound_word : fault_of verb.Cat (codes "img" ∷ codes "--jobs" ∷ codes "1" ∷ []) 1 ≡ None
 sound_word = refl
-
-usage_of_cat : usage_text (Some (codes "cat")) ≡ codes "  cat IMAGE NAME\n      puts the bytes of the entry of that name\n"
-    ++ codes "  --jobs N\n      works in N pieces, from 1 to 64, with each command; no answer changes\n"
-usage_of_cat = refl
-
-usage_of_no_word : usage_text None ≡ usage_text (Some (codes "zap"))
-usage_of_no_word = refl

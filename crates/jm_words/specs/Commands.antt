@@ -14,6 +14,7 @@ use Rattle.jm_words.specs.declared.tasks.GenTask.{GenTask}
 use Rattle.jm_words.specs.declared.tasks.ImageWork.{ImageWork}
 use Rattle.jm_words.specs.declared.tasks.ImageWork.TheVariants as work
 use Rattle.jm_words.specs.declared.tasks.LinkTask.{LinkTask}
+use Rattle.jm_words.specs.declared.tasks.Plugin.{Plugin}
 use Rattle.jm_words.specs.declared.tasks.Task.{Task}
 use Rattle.jm_words.specs.declared.tasks.Task.TheVariants as task
 use Rattle.jm_pattern.specs.declared.signs.Sign.{Sign}
@@ -31,19 +32,19 @@ abbrev pub release_of : List Given → ℕ
 release_of values = unwrap_or (number_in (the field.Release values)) 21
 
 -- the `link` of what was given, or none where an option isn't there that must be
-abbrev pub link_of : Draft → Option LinkTask
-link_of draft =
-    needing (source_in (the field.Source draft.values)) (λ source.
-    needing (names_in (the field.Roots draft.values)) (λ roots.
-    needing (path_in (the field.Output draft.values)) (λ output.
+abbrev pub link_of : List Given → List Plugin → Option LinkTask
+link_of values plugins =
+    needing (source_in (the field.Source values)) (λ source.
+    needing (names_in (the field.Roots values)) (λ roots.
+    needing (path_in (the field.Output values)) (λ output.
     Some (record {
       source = source;
       roots = roots;
       output = output;
-      plugins = draft.plugins;
-      order = unwrap_or (order_in (the field.Order draft.values)) Little;
-      bind = has draft.values field.Bind;
-      release = release_of draft.values;
+      plugins = plugins;
+      order = unwrap_or (order_in (the field.Order values)) Little;
+      bind = has values field.Bind;
+      release = release_of values;
     }))))
 
 -- the `gen` of what was given, or none where something isn't there that must be
@@ -66,11 +67,13 @@ included values = patterns_in (the field.Include values)
 
 -- the task of what was given, or none where an argument or an option isn't there that must be
 abbrev pub task_of : Verb → Draft → Option Task
-task_of verb.Link draft = needing (link_of draft) (λ link. Some (task.Link link))
+task_of verb.Link draft =
+    needing (link_of draft.values draft.plugins) (λ link. Some (task.Link link))
 task_of verb.Cat draft =
     needing (name_in (the field.Name draft.values)) (λ name.
     on_image draft.values (work.Cat name))
-task_of verb.List draft = on_image draft.values (work.List (included draft.values))
+task_of verb.List draft =
+    on_image draft.values (work.List (included draft.values) (has draft.values field.Digests))
 task_of verb.Ls draft =
     needing (name_in (the field.Name draft.values)) (λ path.
     on_image draft.values (work.Ls path))
@@ -78,7 +81,7 @@ task_of verb.Info draft = on_image draft.values work.Info
 task_of verb.Extract draft =
     needing (path_in (the field.Folder draft.values)) (λ dir.
     on_image draft.values (work.Extract dir (included draft.values)))
-task_of verb.Verify draft = on_image draft.values work.Verify
+task_of verb.Verify draft = on_image draft.values (work.Verify (has draft.values field.Nodes))
 task_of verb.Serve draft = on_image draft.values work.Serve
 task_of verb.Gen draft = needing (gen_of draft.values) (λ gen. Some (task.Gen gen))
 task_of verb.Describe draft =

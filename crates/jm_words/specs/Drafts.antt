@@ -1,6 +1,6 @@
 -- What words give (this project's rule): fields with their values, and the plug-ins.
 use Rattle.std.specs.Prelude.{◌≡◌, ℕ, Bool, false, List, [], ◌∷◌, ◌++◌, filter}
-use Rattle.std.specs.Prelude.{Option, None, Some, option_map, is_none, is_some}
+use Rattle.std.specs.Prelude.{Option, None, Some, option_map, is_none, is_some, if◌then◌else◌}
 use Rattle.std.specs.List.{filter_map, find}
 use Rattle.jm_bytes.specs.declared.words.Order.{Order}
 use Rattle.jm_pattern.specs.declared.signs.Sign.{Sign}
@@ -11,14 +11,17 @@ use Rattle.jm_words.specs.declared.drafts.Draft.{Draft}
 use Rattle.jm_words.specs.declared.given.Value.{Value}
 use Rattle.jm_words.specs.declared.given.Value.TheVariants as value
 use Rattle.jm_words.specs.declared.tables.Field.{Field}
+use Rattle.jm_words.specs.declared.tables.Field.TheVariants as field
 use Rattle.jm_words.specs.Givens.{Given, plugin_in}
 use Rattle.jm_words.specs.Tables.{same_field}
 
--- all that is given, the plug-ins apart, both in the order of their words
-abbrev pub draft_of : List Given → Draft
-draft_of givens = record {
+-- all that is given, the plug-ins apart, both in the order of their words, with the number of the
+-- first word that asks for the order of an image
+abbrev pub draft_of : Option ℕ → List Given → Draft
+draft_of kept givens = record {
   values = filter (λ given. is_none (plugin_in given)) givens;
   plugins = filter_map plugin_in givens;
+  kept_at = kept;
 }
 
 -- the value of a field, if it is given: a second is a fault of its word
@@ -46,6 +49,10 @@ source_in (Some (value.Paths directories)) = Some (source.Path directories)
 source_in (Some (value.Path image)) = Some (source.Image image)
 source_in _ = None
 
+-- the path of an image to link is given
+abbrev pub gives_image : List Given → Bool
+gives_image values = is_some (path_in (the field.Source values))
+
 -- the names that a value is, if it is some
 abbrev pub names_in : Option Value → Option (List (List ℕ))
 names_in (Some (value.Names names)) = Some names
@@ -70,16 +77,29 @@ patterns_in _ = None
 
 -- what is given before the first word
 abbrev pub nothing : Draft
-nothing = record { values = []; plugins = [] }
+nothing = record { values = []; plugins = []; kept_at = None }
 
 -- what is given, with one thing more, which is a plug-in or none
 abbrev pub with_part : Draft → Given → Option Plugin → Draft
 with_part draft given None = record draft { values = draft.values ++ given ∷ [] }
 with_part draft given (Some plugin) = record draft { plugins = draft.plugins ++ plugin ∷ [] }
 
--- what is given, with one thing more
-abbrev pub with_given : Draft → Given → Draft
-with_given draft given = with_part draft given (plugin_in given)
+-- what is given asks for the order of an image
+abbrev pub asks_order : Option Given → Bool
+asks_order None = false
+asks_order (Some given) = same_field given.field field.KeepOrder
+
+-- the number of the first word that asks for the order of an image, with one word more, if it gives
+-- something
+abbrev pub kept_with : ℕ → Option Given → Option ℕ → Option ℕ
+kept_with at given None = if asks_order given then Some at else None
+kept_with at given (Some first) = Some first
+
+-- what is given, with one thing more by the word of a number
+abbrev pub with_given : ℕ → Draft → Given → Draft
+with_given at draft given = record (with_part draft given (plugin_in given)) {
+  kept_at = kept_with at (Some given) draft.kept_at;
+}
 
 -- the values of other fields than one are what they were
 abbrev pub LeavesOthers : Field → List Given → List Given → Type 0

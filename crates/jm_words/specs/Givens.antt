@@ -1,5 +1,5 @@
 -- What an argument or an option gives (this project's rule).
-use Rattle.std.specs.Prelude.{ℕ, List, Option, Some, None, option_map}
+use Rattle.std.specs.Prelude.{ℕ, List, [], Option, Some, None, option_map}
 use Rattle.jm_names.specs.UtfForms.{modified}
 use Rattle.jm_words.specs.declared.given.Value.{Value}
 use Rattle.jm_words.specs.declared.given.Value.TheVariants as value
@@ -46,6 +46,7 @@ flag_given row = record { field = row.field; value = value.Flag }
 abbrev pub plugin_of : Field → Value → Option Plugin
 plugin_of field.Exclude (value.Patterns names) = Some (plugin.Exclude names)
 plugin_of field.Rank (value.Patterns names) = Some (plugin.Order names)
+plugin_of field.KeepOrder value.Flag = Some (plugin.KeepOrder [])
 plugin_of field.Strip value.Flag = Some plugin.Strip
 plugin_of field.Compact value.Flag = Some plugin.Compact
 plugin_of field.Packages value.Flag = Some plugin.Packages

@@ -1,5 +1,5 @@
 -- The texts of the help, of the rows of the tables (this project's rule).
-use Rattle.std.specs.Prelude.{ℕ, List, [], ◌∷◌, ◌++◌, Option, None, Some, codes, flat_map}
+use Rattle.std.specs.Prelude.{ℕ, List, [], ◌∷◌, ◌++◌, codes, flat_map}
 use Rattle.std.specs.Prelude.{if◌then◌else◌}
 use Rattle.jm_words.specs.declared.tables.Form.{Form}
 use Rattle.jm_words.specs.declared.tables.Form.TheVariants as form
@@ -7,36 +7,35 @@ use Rattle.jm_words.specs.declared.tables.Part.{Part}
 use Rattle.jm_words.specs.declared.tables.Part.TheVariants as part
 use Rattle.jm_words.specs.declared.tables.Verb.{Verb}
 use Rattle.jm_words.specs.declared.tables.Verb.TheVariants as verb
-use Rattle.jm_words.specs.Commands.{verb_named}
-use Rattle.jm_words.specs.Tables.{Row, include, options, same_part, verbs}
+use Rattle.jm_words.specs.Tables.{Row, digests, include, nodes, options, same_part, verbs}
 
 -- the words of a command, and what it does, line by line
 abbrev pub lines : Verb → List (List ℕ × List ℕ)
 lines verb.Link = (
   codes "link --module-path DIRS --add-modules NAMES --output FILE [options] [plug-ins]",
-  codes "links modules and all that they require into one image",
+  codes "links modules and all that they require, except by requires static",
 )
     ∷ (
       codes "link --from-image FILE --add-modules NAMES --output FILE [options] [plug-ins]",
       codes "the same with the modules of another image",
     )
     ∷ []
-lines verb.Cat = (codes "cat IMAGE NAME", codes "puts the bytes of the entry of that name") ∷ []
+lines verb.Cat = (codes "cat IMAGE NAME", codes "prints the bytes of the entry of that name") ∷ []
 lines verb.List = (
-  codes "list IMAGE [--include PATTERNS]",
-  codes "puts the size and the name of each resource",
+  codes "list IMAGE [--include PATTERNS] [--sha256]",
+  codes "prints the size and the name of each resource",
 )
     ∷ []
-lines verb.Ls = (codes "ls IMAGE PATH", codes "puts what a folder of the image holds") ∷ []
-lines verb.Info = (codes "info IMAGE", codes "puts what the header says") ∷ []
+lines verb.Ls = (codes "ls IMAGE PATH", codes "prints what a folder of the image holds") ∷ []
+lines verb.Info = (codes "info IMAGE", codes "prints what the header says") ∷ []
 lines verb.Extract = (
   codes "extract IMAGE --dir DIR [--include PATTERNS]",
   codes "writes each resource to a file below DIR",
 )
     ∷ []
 lines verb.Verify = (
-  codes "verify IMAGE",
-  codes "checks the image and puts the number of its entries",
+  codes "verify IMAGE [--nodes]",
+  codes "checks the structure of the image and prints the number of its entries",
 )
     ∷ []
 lines verb.Serve = (codes "serve IMAGE", codes "answers the lines of the input") ∷ []
@@ -47,11 +46,11 @@ lines verb.Gen = (
     ∷ []
 lines verb.Describe = (
   codes "describe FILE [--release N]",
-  codes "puts what a module-info.class says",
+  codes "prints what a module-info.class says",
 )
     ∷ []
-lines verb.Help = (codes "--help", codes "puts this text") ∷ []
-lines verb.Version = (codes "--version", codes "puts the version of the program") ∷ []
+lines verb.Help = (codes "--help", codes "prints this text") ∷ []
+lines verb.Version = (codes "--version", codes "prints the version of the program") ∷ []
 
 -- words, and below them what they do
 abbrev pub entry_text : List ℕ → List ℕ → List ℕ
@@ -96,17 +95,8 @@ help_text =
     ++ codes "\noptions:\n"
     ++ options_text verb.Link part.Options
     ++ row_text include
+    ++ row_text digests
+    ++ row_text nodes
     ++ codes "\nplug-ins:\n"
     ++ options_text verb.Link part.Plugins
     ++ codes "\n"
-
--- how a command is used, with its options and plug-ins, or else each command
-abbrev pub usage_of : Option Verb → List ℕ
-usage_of None = flat_map verb_text verbs
-usage_of (Some verb) =
-    verb_text verb ++ options_text verb part.Options ++ options_text verb part.Plugins
-
--- how the command of a name is used, or else each command
-abbrev pub usage_text : Option (List ℕ) → List ℕ
-usage_text None = usage_of None
-usage_text (Some word) = usage_of (verb_named word)

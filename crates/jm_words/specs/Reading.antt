@@ -33,20 +33,20 @@ standing_at verb words i = record {
   pending = pending_at verb words i;
 }
 
--- what was given, with what a word gives, if it gives something
-abbrev pub with_word : Draft → Option Given → Draft
-with_word draft None = draft
-with_word draft (Some given) = with_given draft given
+-- what was given, with what the word of a number gives, if it gives something
+abbrev pub with_word : ℕ → Draft → Option Given → Draft
+with_word at draft None = draft
+with_word at draft (Some given) = with_given at draft given
 
--- the arguments that are left behind a word in its role
+-- the arguments that are left after a word in its role
 abbrev pub left_behind : List Row → Role → List Row
 left_behind left (AsArgument text) = drop 1 left
 left_behind left _ = left
 
--- what stands after a word in its role that has no fault
-abbrev pub after_sound : Standing → Role → Standing
-after_sound standing role = record {
-  draft = with_word standing.draft (given_by standing.left role);
+-- what stands after a word of a number in its role that has no fault
+abbrev pub after_sound : ℕ → Standing → Role → Standing
+after_sound at standing role = record {
+  draft = with_word at standing.draft (given_by standing.left role);
   left = left_behind standing.left role;
   pending = waiting role;
 }
@@ -55,13 +55,13 @@ after_sound standing role = record {
 abbrev pub after_role : ℕ → ℕ → Standing → Role → Result Standing WordsFault
 after_role at all standing role =
     unless_fault (fault_in at standing.draft.values standing.left (at == all) role)
-    (after_sound standing role)
+    (after_sound at standing role)
 
 -- what stands after a text that gives something, or `BadValue` where it gives nothing
 abbrev pub after_text : ℕ → Option Given → Standing → Result Standing WordsFault
 after_text at None standing = fault_at at kind.BadValue
 after_text at (Some given) standing =
-    Ok (record standing { draft = with_given standing.draft given; pending = None })
+    Ok (record standing { draft = with_given at standing.draft given; pending = None })
 
 -- what stands after an argument, or its fault
 abbrev pub after_argument : ℕ → List ℕ → List Row → Standing → Result Standing WordsFault

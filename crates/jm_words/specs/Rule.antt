@@ -2,10 +2,12 @@
 -- first fault of a word in its role decides, and a missing argument or option comes last. A place
 -- is that of a word behind the command, from 0, so the word at place i has the number i + 2.
 use Rattle.std.specs.Prelude.{ℕ, zero, suc, ◌+◌, ◌==◌, List, [], ◌∷◌, length, drop}
-use Rattle.std.specs.Prelude.{map, count_by, slice_get, unwrap_or, Option, Some, None}
-use Rattle.std.specs.Prelude.{Result, Ok, Err}
-use Rattle.std.specs.List.{filter_map, range_with_len}
+use Rattle.std.specs.Prelude.{map, count_by, slice_get, unwrap_or, Option, Some, None, option_map}
+use Rattle.std.specs.Prelude.{if◌then◌else◌}
+use Rattle.std.specs.Prelude.{Result, Ok}
+use Rattle.std.specs.List.{filter_map, find, range_with_len}
 use Rattle.jm_bytes.specs.Checks.{first_fault, unless_fault}
+use Rattle.jm_bytes.specs.Results.{followed}
 use Rattle.jm_words.specs.declared.tasks.Command.{Command}
 use Rattle.jm_words.specs.declared.errors.WordsFault.{WordsFault}
 use Rattle.jm_words.specs.declared.errors.WordsKind.TheVariants as kind
@@ -13,7 +15,7 @@ use Rattle.jm_words.specs.Givens.{Given}
 use Rattle.jm_words.specs.declared.tables.Verb.{Verb}
 use Rattle.jm_words.specs.declared.drafts.Draft.{Draft}
 use Rattle.jm_words.specs.Commands.{command_of, verb_named}
-use Rattle.jm_words.specs.Drafts.{draft_of}
+use Rattle.jm_words.specs.Drafts.{asks_order, draft_of, gives_image}
 use Rattle.jm_words.specs.Roles.{Role, fault_at, fault_in, given_by, is_argument, role_of, waiting}
 use Rattle.jm_words.specs.Tables.{Row, arguments, options}
 
@@ -44,9 +46,15 @@ given_at verb words i = given_by (left_at verb words i) (role_at verb words i)
 abbrev pub givens_before : Verb → List (List ℕ) → ℕ → List Given
 givens_before verb words i = filter_map (given_at verb words) (range_with_len 0 i)
 
+-- the number of the first word before a place that asks for the order of an image
+abbrev pub kept_before : Verb → List (List ℕ) → ℕ → Option ℕ
+kept_before verb words i =
+    option_map (λ j. j + 2)
+    (find (λ j. asks_order (given_at verb words j)) (range_with_len 0 i))
+
 -- what the words before a place give, the plug-ins apart
 abbrev pub draft_before : Verb → List (List ℕ) → ℕ → Draft
-draft_before verb words i = draft_of (givens_before verb words i)
+draft_before verb words i = draft_of (kept_before verb words i) (givens_before verb words i)
 
 -- the first fault, in the order of `word_checks`, that the word at a place has in its role
 abbrev pub fault_of : Verb → List (List ℕ) → ℕ → Option WordsFault
@@ -63,6 +71,14 @@ abbrev pub draft_given : Verb → List (List ℕ) → Result Draft WordsFault
 draft_given verb words =
     unless_fault (fault_before verb words (length words)) (draft_before verb words (length words))
 
+-- what words give, or the fault of the first word that asks for the order of an image, where no
+-- image is given
+abbrev pub with_image : Draft → Result Draft WordsFault
+with_image draft =
+    unless_fault
+    (if gives_image draft.values then None
+    else option_map (λ at. record { at = at; kind = kind.BadValue }) draft.kept_at) draft
+
 -- the command that is made, or `Missing` with the number of all words
 abbrev pub command_or_missing : ℕ → Option Command → Result Command WordsFault
 command_or_missing all None = fault_at all kind.Missing
@@ -70,8 +86,9 @@ command_or_missing all (Some command) = Ok command
 
 -- the command of what the words give, or their fault
 abbrev pub command_unless_fault : Verb → ℕ → Result Draft WordsFault → Result Command WordsFault
-command_unless_fault verb all (Ok draft) = command_or_missing all (command_of verb draft)
-command_unless_fault verb all (Err fault) = Err fault
+command_unless_fault verb all given =
+    followed (followed given with_image)
+    (λ draft. command_or_missing all (command_of verb draft))
 
 -- the command of a name that was looked up, with the words behind it, or their first fault
 abbrev pub command_after : Option Verb → List (List ℕ) → Result Command WordsFault

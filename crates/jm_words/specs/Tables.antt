@@ -43,17 +43,27 @@ image = row (codes "IMAGE") form.Path field.File
 -- how many pieces work at the same time
 abbrev pub jobs : Row
 jobs = option_row (codes "--jobs") form.Number field.Jobs
-    (codes "works in N pieces, from 1 to 64, with each command; no answer changes")
+    (codes "uses up to N threads, from 1 to 64; the output is the same")
 
 -- up to which release classes are read
 abbrev pub release : Row
 release = option_row (codes "--release") form.Number field.Release
-    (codes "takes classes of Java SE up to release N, from 21 to 25; 21 without it")
+    (codes "accepts class files up to Java N, from 21 to 25; 21 without it")
 
 -- the patterns of what is taken
 abbrev pub include : Row
 include = option_row (codes "--include") form.Patterns field.Include
-    (codes "takes only the resources with a name that a pattern of the list matches")
+    (codes "takes only the resources whose name matches a pattern of the list")
+
+-- that digests are printed
+abbrev pub digests : Row
+digests = option_row (codes "--sha256") form.Flag field.Digests
+    (codes "prints the SHA-256 of the content of each resource before its size")
+
+-- that the nodes' contents are judged
+abbrev pub nodes : Row
+nodes = option_row (codes "--nodes") form.Flag field.Nodes
+    (codes "also checks the contents of the nodes of the two trees")
 
 -- the name of a command
 abbrev pub verb_name : Verb → List ℕ
@@ -96,27 +106,29 @@ options verb.Link =
     ∷ row (codes "--module-path") form.Folders field.Source
     ∷ row (codes "--from-image") form.Path field.Source
     ∷ option_row (codes "--add-modules") form.Names field.Roots
-    (codes "the modules that link takes; ALL-MODULE-PATH among them stands for all modules")
+    (codes "the modules to link; ALL-MODULE-PATH among them stands for all modules")
     ∷ row (codes "--output") form.Path field.Output
     ∷ option_row (codes "--endian") form.Order field.Order
-    (codes "the order of bytes of the image of link: little, or big")
+    (codes "the byte order of the image: little, or big")
     ∷ option_row (codes "--bind-services") form.Flag field.Bind
-    (codes "takes in the modules that provide services which the linked ones use")
+    (codes "also links the modules that provide services which linked modules use")
     ∷ release
     ∷ plugin_row (codes "--exclude-resources") form.Patterns field.Exclude
-    (codes "leaves out the resources with a name that a pattern matches")
+    (codes "leaves out the resources whose name matches a pattern")
     ∷ plugin_row (codes "--order-resources") form.Patterns field.Rank
-    (codes "puts the resources in the order of the patterns that match their names")
+    (codes "places the resources in the order of the patterns that match their names")
+    ∷ plugin_row (codes "--keep-order") form.Flag field.KeepOrder
+    (codes "places the resources in the order of the image of --from-image")
     ∷ plugin_row (codes "--strip-java-debug-attributes") form.Flag field.Strip
-    (codes "drops what a class says for debuggers")
+    (codes "removes debug attributes")
     ∷ plugin_row (codes "--compact-pool") form.Flag field.Compact
-    (codes "drops the constants of a class that nothing names")
+    (codes "removes unreferenced constants")
     ∷ plugin_row (codes "--module-packages") form.Flag field.Packages
-    (codes "names the packages of each module in its descriptor")
+    (codes "lists the packages of each module in its descriptor")
     ∷ plugin_row (codes "--drop-system-modules") form.Flag field.DropSystemModules
-    (codes "drops the classes of java.base that name all modules of another image")
+    (codes "removes the classes of java.base that name all modules of another image")
     ∷ []
-options verb.List = jobs ∷ include ∷ []
+options verb.List = jobs ∷ include ∷ digests ∷ []
 options verb.Extract =
     jobs ∷ row (codes "--dir") form.Folder field.Folder ∷ include ∷ []
 options verb.Gen =
@@ -126,6 +138,7 @@ options verb.Gen =
     ∷ row (codes "--seed") form.Number field.Seed
     ∷ []
 options verb.Describe = jobs ∷ release ∷ []
+options verb.Verify = jobs ∷ nodes ∷ []
 options _ = jobs ∷ []
 
 -- the limits of the numbers of a field

@@ -6,11 +6,12 @@ ghost use Rattle.jm_words.specs.Commands.{gen_of, jobs_of, link_of, on_image};
 ghost use Rattle.jm_words.specs.Commands.{release_of, task_of, verb_named};
 ghost use Rattle.jm_words.specs.Paths.{FilePathsAreText, FolderIsText, GenFits, IsRelease};
 ghost use Rattle.jm_words.specs.Paths.{LinkIsText, NumbersFit};
-ghost use Rattle.jm_words.specs.Rule.{command_in};
+ghost use Rattle.jm_words.specs.Rule.{command_in, with_image};
 ghost use Rattle.jm_words.specs.Tables.{verb_name};
 
 use crate::drafts::{
-    Draft, has, number, order, take_name, take_names, take_path, take_patterns, take_source,
+    Draft, gives_image, has, number, order, take_name, take_names, take_path, take_patterns,
+    take_source,
 };
 use crate::errors::{WordsFault, WordsKind};
 use crate::given::Given;
@@ -43,7 +44,7 @@ pub fn read_words(alloc: Global, words: &[String]) -> Result<Command, Or<WordsFa
             kind: WordsKind::UnknownCommand,
         })),
     };
-    let draft = draft_of(alloc, verb, behind)?;
+    let draft = with_image(draft_of(alloc, verb, behind)?)?;
     let jobs = jobs_of(draft.values.as_slice());
     match task_of(verb, draft) {
         Some(task) => Ok(Command { jobs, task }),
@@ -51,6 +52,20 @@ pub fn read_words(alloc: Global, words: &[String]) -> Result<Command, Or<WordsFa
             at: words.len(),
             kind: WordsKind::Missing,
         })),
+    }
+}
+
+/// What words give, or the fault of the first word that asks for the order of an image, where no
+/// image is given.
+fn with_image(draft: Draft) -> Result<Draft, Or<WordsFault>>
+    ensures { IfAnswered (λ r. r ≡ with_image draft) result }
+{
+    match draft.kept_at {
+        Some(at) if !gives_image(draft.values.as_slice()) => Err(Or::Fault(WordsFault {
+            at,
+            kind: WordsKind::BadValue,
+        })),
+        _ => Ok(draft),
     }
 }
 
@@ -111,8 +126,9 @@ fn task_of(verb: Verb, draft: Draft) -> Option<Task>
             on_image(values, ImageWork::Cat { name })
         }
         Verb::List => {
+            let digests = has(values, Field::Digests);
             let include = take_patterns(values, Field::Include);
-            on_image(values, ImageWork::List { include })
+            on_image(values, ImageWork::List { include, digests })
         }
         Verb::Ls => {
             let path = take_name(values, Field::Name)?;
@@ -124,7 +140,10 @@ fn task_of(verb: Verb, draft: Draft) -> Option<Task>
             let include = take_patterns(values, Field::Include);
             on_image(values, ImageWork::Extract { dir, include })
         }
-        Verb::Verify => on_image(values, ImageWork::Verify),
+        Verb::Verify => {
+            let nodes = has(values, Field::Nodes);
+            on_image(values, ImageWork::Verify { nodes })
+        }
         Verb::Serve => on_image(values, ImageWork::Serve),
     }
 }
@@ -157,7 +176,7 @@ fn gen_of(values: &mut [Given]) -> Option<GenTask>
 
 /// The `link` of what was given, if all is there that must be.
 fn link_of(values: &mut [Given], plugins: List<Plugin>) -> Option<LinkTask>
-    ensures task { result ≡ link_of (record { values = values.old; plugins = plugins }) }
+    ensures task { result ≡ link_of values.old plugins }
     ensures paths { IfSome result LinkIsText }
     ensures release { IfSome result (λ link. IsRelease link.release) }
 {

@@ -1,5 +1,5 @@
 ghost use Rattle.std.specs.Prelude.{◌≡◌, option_map, All, IfSome, IsUtf8, OnOk};
-ghost use Rattle.jm_words.specs.Drafts.{LeavesOthers, has, name_in, names_in, nothing};
+ghost use Rattle.jm_words.specs.Drafts.{LeavesOthers, gives_image, has, name_in, names_in, nothing};
 ghost use Rattle.jm_words.specs.Drafts.{number_in, order_in, path_in, patterns_in, source_in, the};
 ghost use Rattle.jm_words.specs.Drafts.{with_given};
 ghost use Rattle.jm_words.specs.Fits.{Fits, IsWithin};
@@ -13,11 +13,13 @@ use jm_pattern::Pattern;
 use std::alloc::Global;
 use std::mem::replace;
 
-/// What words have given so far: fields with their values, and the plug-ins.
+/// What words have given so far: fields with their values, the plug-ins, and the number of the
+/// first word that asks for the order of an image, from 1.
 #[derive(Drop)]
 pub struct Draft {
     pub values: List<Given>,
     pub plugins: List<Plugin>,
+    pub kept_at: Option<usize>,
 }
 
 impl Draft {
@@ -28,18 +30,29 @@ impl Draft {
         Draft {
             values: List::new(alloc),
             plugins: List::new(alloc),
+            kept_at: None,
         }
     }
 
-    /// One more thing is given.
-    pub fn put(&mut self, given: Given) -> Result<(), NoMemory>
-        ensures { OnOk result (self.new ≡ with_given self.old given) }
+    /// One more thing is given, by the word of this number.
+    pub fn put(&mut self, alloc: Global, at: usize, given: Given) -> Result<(), NoMemory>
+        ensures { OnOk result (self.new ≡ with_given at self.old given) }
     {
-        match plugin_or_given(given) {
+        if self.kept_at.is_none() && given.field == Field::KeepOrder {
+            self.kept_at = Some(at);
+        }
+        match plugin_or_given(alloc, given) {
             Ok(plugin) => self.plugins.push(plugin),
             Err(given) => self.values.push(given),
         }
     }
+}
+
+/// Whether the path of an image to link is given.
+pub fn gives_image(values: &[Given]) -> bool
+    ensures { result ≡ gives_image values.now }
+{
+    matches!(find(values, Field::Source), Some(Value::Path(_)))
 }
 
 /// Whether a field is given.

@@ -97,7 +97,7 @@ pub fn given_of(alloc: Global, row: Row, text: &str) -> Result<Option<Given>, No
 }
 
 /// The plug-in that is given, or what is given else.
-pub fn plugin_or_given(given: Given) -> Result<Plugin, Given>
+pub fn plugin_or_given(alloc: Global, given: Given) -> Result<Plugin, Given>
     ensures plugin { IfOk result (λ plugin. plugin_in given ≡ Some plugin) }
     ensures other { IfErr result (λ other. (other ≡ given) × (plugin_in given ≡ None)) }
 {
@@ -105,6 +105,7 @@ pub fn plugin_or_given(given: Given) -> Result<Plugin, Given>
     match (field, value) {
         (Field::Exclude, Value::Patterns(names)) => Ok(Plugin::Exclude(names)),
         (Field::Rank, Value::Patterns(names)) => Ok(Plugin::Order(names)),
+        (Field::KeepOrder, Value::Flag) => Ok(Plugin::KeepOrder(List::new(alloc))),
         (Field::Strip, Value::Flag) => Ok(Plugin::Strip),
         (Field::Compact, Value::Flag) => Ok(Plugin::Compact),
         (Field::Packages, Value::Flag) => Ok(Plugin::Packages),

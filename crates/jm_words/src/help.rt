@@ -1,12 +1,11 @@
 //! The texts of the help, a line for each row of the tables.
-ghost use Rattle.std.specs.Prelude.{◌≡◌, ◌++◌, flat_map, map, option_map, IfOk, OnOk};
+ghost use Rattle.std.specs.Prelude.{◌≡◌, ◌++◌, flat_map, map, IfOk, OnOk};
 ghost use Rattle.jm_words.specs.Help.{entry_text, help_text, lines, options_text, row_text};
-ghost use Rattle.jm_words.specs.Help.{usage_text, value_word, verb_text};
+ghost use Rattle.jm_words.specs.Help.{value_word, verb_text};
 ghost use Rattle.jm_words.specs.Tables.{verbs};
 ghost use Rattle.jm_words.specs.Rows.{row_of};
 
-use crate::commands::verb_named;
-use crate::tables::{Form, INCLUDE, Part, Row, Verb, options, verbs};
+use crate::tables::{DIGESTS, Form, INCLUDE, NODES, Part, Row, Verb, options, verbs};
 use jm_bytes::{NoMemory, Text};
 use std::alloc::Global;
 
@@ -22,7 +21,7 @@ fn lines(verb: Verb) -> &'static [Line]
         Verb::Link => &[
             Line(
                 b"link --module-path DIRS --add-modules NAMES --output FILE [options] [plug-ins]",
-                b"links modules and all that they require into one image",
+                b"links modules and all that they require, except by requires static",
             ),
             Line(
                 b"link --from-image FILE --add-modules NAMES --output FILE [options] [plug-ins]",
@@ -31,21 +30,21 @@ fn lines(verb: Verb) -> &'static [Line]
         ],
         Verb::Cat => &[Line(
             b"cat IMAGE NAME",
-            b"puts the bytes of the entry of that name",
+            b"prints the bytes of the entry of that name",
         )],
         Verb::List => &[Line(
-            b"list IMAGE [--include PATTERNS]",
-            b"puts the size and the name of each resource",
+            b"list IMAGE [--include PATTERNS] [--sha256]",
+            b"prints the size and the name of each resource",
         )],
-        Verb::Ls => &[Line(b"ls IMAGE PATH", b"puts what a folder of the image holds")],
-        Verb::Info => &[Line(b"info IMAGE", b"puts what the header says")],
+        Verb::Ls => &[Line(b"ls IMAGE PATH", b"prints what a folder of the image holds")],
+        Verb::Info => &[Line(b"info IMAGE", b"prints what the header says")],
         Verb::Extract => &[Line(
             b"extract IMAGE --dir DIR [--include PATTERNS]",
             b"writes each resource to a file below DIR",
         )],
         Verb::Verify => &[Line(
-            b"verify IMAGE",
-            b"checks the image and puts the number of its entries",
+            b"verify IMAGE [--nodes]",
+            b"checks the structure of the image and prints the number of its entries",
         )],
         Verb::Serve => &[Line(b"serve IMAGE", b"answers the lines of the input")],
         Verb::Gen => &[Line(
@@ -54,10 +53,10 @@ fn lines(verb: Verb) -> &'static [Line]
         )],
         Verb::Describe => &[Line(
             b"describe FILE [--release N]",
-            b"puts what a module-info.class says",
+            b"prints what a module-info.class says",
         )],
-        Verb::Help => &[Line(b"--help", b"puts this text")],
-        Verb::Version => &[Line(b"--version", b"puts the version of the program")],
+        Verb::Help => &[Line(b"--help", b"prints this text")],
+        Verb::Version => &[Line(b"--version", b"prints the version of the program")],
     }
 }
 
@@ -137,25 +136,10 @@ pub fn help_text(alloc: Global) -> Result<Text, NoMemory>
     text.extend(b"\noptions:\n")?;
     extend_options(&mut text, Verb::Link, Part::Options)?;
     extend_row(&mut text, INCLUDE)?;
+    extend_row(&mut text, DIGESTS)?;
+    extend_row(&mut text, NODES)?;
     text.extend(b"\nplug-ins:\n")?;
     extend_options(&mut text, Verb::Link, Part::Plugins)?;
     text.extend(b"\n")?;
-    Ok(text)
-}
-
-/// How the command of a name is used, with its options and plug-ins, or else each command.
-pub fn usage(alloc: Global, word: Option<&[u8]>) -> Result<Text, NoMemory>
-    ensures { IfOk result (λ text. text
-        ≡ usage_text (option_map (λ word. word.now) word.entry)) }
-{
-    let mut text = Text::new(alloc);
-    match word.and_then(|word| verb_named(word)) {
-        Some(verb) => {
-            extend_verb(&mut text, verb)?;
-            extend_options(&mut text, verb, Part::Options)?;
-            extend_options(&mut text, verb, Part::Plugins)?;
-        }
-        None => extend_verbs(&mut text)?,
-    }
     Ok(text)
 }

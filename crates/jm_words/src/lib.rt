@@ -12,7 +12,8 @@ mod tables;
 mod tasks;
 mod values;
 
-pub use commands::read_words;
+pub use commands::{read_words, verb_named};
 pub use errors::{WordsFault, WordsKind};
-pub use help::{help_text, usage};
+pub use help::help_text;
+pub use tables::{Field, Form, Part, Row, Verb, arguments, limits, options, verb_name, verbs};
 pub use tasks::{Command, GenTask, ImageWork, LinkTask, Plugin, Source, Task};

@@ -80,7 +80,7 @@ fn after_word(
         (role_of (map row_of rows.now) progress.pending word.now)) result }
 {
     if let Some(row) = progress.pending {
-        return after_text(position.at, given_of(alloc, row, word)?, progress);
+        return after_text(alloc, position.at, given_of(alloc, row, word)?, progress);
     }
     if !word.as_bytes().starts_with(b"--") {
         return after_argument(alloc, position.at, word, progress);
@@ -110,14 +110,14 @@ fn after_option(
         return fault_at(at, WordsKind::Repeated);
     }
     if let Some(text) = value {
-        return after_text(at, given_of(alloc, row, text)?, progress);
+        return after_text(alloc, at, given_of(alloc, row, text)?, progress);
     }
     if row.1.is_flag() {
         let given = Given {
             field: row.2,
             value: Value::Flag,
         };
-        return after_text(at, Some(given), progress);
+        return after_text(alloc, at, Some(given), progress);
     }
     if at == last {
         return fault_at(at, WordsKind::NoValue);
@@ -139,7 +139,7 @@ fn after_argument(
     match progress.left.split_first() {
         Some((row, left)) => {
             progress.left = left;
-            after_text(at, given_of(alloc, *row, word)?, progress)
+            after_text(alloc, at, given_of(alloc, *row, word)?, progress)
         }
         None => fault_at(at, WordsKind::TooManyArguments),
     }
@@ -147,6 +147,7 @@ fn after_argument(
 
 /// What a word's text gives is put, if the text is of its form.
 fn after_text(
+    alloc: Global,
     at: usize,
     given: Option<Given>,
     progress: Progress,
@@ -156,7 +157,7 @@ fn after_text(
     let mut progress = progress;
     match given {
         Some(given) => {
-            progress.draft.put(given)?;
+            progress.draft.put(alloc, at, given)?;
             progress.pending = None;
             Ok(progress)
         }

@@ -33,12 +33,15 @@ pub enum Field {
     Bind,
     Release,
     Include,
+    Digests,
+    Nodes,
     Modules,
     Classes,
     Seed,
     Jobs,
     Exclude,
     Rank,
+    KeepOrder,
     Strip,
     Compact,
     Packages,
@@ -99,7 +102,7 @@ const JOBS: Row = Row(
     Form::Number,
     Field::Jobs,
     Part::Options,
-    b"works in N pieces, from 1 to 64, with each command; no answer changes",
+    b"uses up to N threads, from 1 to 64; the output is the same",
 );
 
 const RELEASE: Row = Row(
@@ -107,7 +110,7 @@ const RELEASE: Row = Row(
     Form::Number,
     Field::Release,
     Part::Options,
-    b"takes classes of Java SE up to release N, from 21 to 25; 21 without it",
+    b"accepts class files up to Java N, from 21 to 25; 21 without it",
 );
 
 pub const INCLUDE: Row = Row(
@@ -115,7 +118,23 @@ pub const INCLUDE: Row = Row(
     Form::Patterns,
     Field::Include,
     Part::Options,
-    b"takes only the resources with a name that a pattern of the list matches",
+    b"takes only the resources whose name matches a pattern of the list",
+);
+
+pub const DIGESTS: Row = Row(
+    b"--sha256",
+    Form::Flag,
+    Field::Digests,
+    Part::Options,
+    b"prints the SHA-256 of the content of each resource before its size",
+);
+
+pub const NODES: Row = Row(
+    b"--nodes",
+    Form::Flag,
+    Field::Nodes,
+    Part::Options,
+    b"also checks the contents of the nodes of the two trees",
 );
 
 /// All commands.
@@ -198,7 +217,7 @@ pub fn options(verb: Verb) -> &'static [Row]
                 Form::Names,
                 Field::Roots,
                 Part::Options,
-                b"the modules that link takes; ALL-MODULE-PATH among them stands for all modules",
+                b"the modules to link; ALL-MODULE-PATH among them stands for all modules",
             ),
             Row(b"--output", Form::Path, Field::Output, Part::None, b""),
             Row(
@@ -206,14 +225,14 @@ pub fn options(verb: Verb) -> &'static [Row]
                 Form::Order,
                 Field::Order,
                 Part::Options,
-                b"the order of bytes of the image of link: little, or big",
+                b"the byte order of the image: little, or big",
             ),
             Row(
                 b"--bind-services",
                 Form::Flag,
                 Field::Bind,
                 Part::Options,
-                b"takes in the modules that provide services which the linked ones use",
+                b"also links the modules that provide services which linked modules use",
             ),
             RELEASE,
             Row(
@@ -221,45 +240,52 @@ pub fn options(verb: Verb) -> &'static [Row]
                 Form::Patterns,
                 Field::Exclude,
                 Part::Plugins,
-                b"leaves out the resources with a name that a pattern matches",
+                b"leaves out the resources whose name matches a pattern",
             ),
             Row(
                 b"--order-resources",
                 Form::Patterns,
                 Field::Rank,
                 Part::Plugins,
-                b"puts the resources in the order of the patterns that match their names",
+                b"places the resources in the order of the patterns that match their names",
+            ),
+            Row(
+                b"--keep-order",
+                Form::Flag,
+                Field::KeepOrder,
+                Part::Plugins,
+                b"places the resources in the order of the image of --from-image",
             ),
             Row(
                 b"--strip-java-debug-attributes",
                 Form::Flag,
                 Field::Strip,
                 Part::Plugins,
-                b"drops what a class says for debuggers",
+                b"removes debug attributes",
             ),
             Row(
                 b"--compact-pool",
                 Form::Flag,
                 Field::Compact,
                 Part::Plugins,
-                b"drops the constants of a class that nothing names",
+                b"removes unreferenced constants",
             ),
             Row(
                 b"--module-packages",
                 Form::Flag,
                 Field::Packages,
                 Part::Plugins,
-                b"names the packages of each module in its descriptor",
+                b"lists the packages of each module in its descriptor",
             ),
             Row(
                 b"--drop-system-modules",
                 Form::Flag,
                 Field::DropSystemModules,
                 Part::Plugins,
-                b"drops the classes of java.base that name all modules of another image",
+                b"removes the classes of java.base that name all modules of another image",
             ),
         ],
-        Verb::List => &[JOBS, INCLUDE],
+        Verb::List => &[JOBS, INCLUDE, DIGESTS],
         Verb::Extract => &[
             JOBS,
             Row(b"--dir", Form::Folder, Field::Folder, Part::None, b""),
@@ -272,7 +298,8 @@ pub fn options(verb: Verb) -> &'static [Row]
             Row(b"--seed", Form::Number, Field::Seed, Part::None, b""),
         ],
         Verb::Describe => &[JOBS, RELEASE],
-        _ => &[JOBS],
+        Verb::Verify => &[JOBS, NODES],
+        Verb::Cat | Verb::Ls | Verb::Info | Verb::Serve | Verb::Help | Verb::Version => &[JOBS],
     }
 }
 

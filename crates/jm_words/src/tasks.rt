@@ -89,6 +89,9 @@ pub enum Plugin {
     Exclude(List<Pattern>),
     /// Pattern by pattern, the resources that match it and no earlier one come first.
     Order(List<Pattern>),
+    /// The resources of these names come first, in the order of the names. Words give no names:
+    /// they are those of the image that is linked anew.
+    KeepOrder(List<Text>),
     /// The debug attributes of classes are left out.
     Strip,
     /// The constants that nothing names are left out of classes.
@@ -111,6 +114,8 @@ pub enum ImageWork {
     List {
         /// Only those that one of the patterns matches, where there are any patterns.
         include: Option<List<Pattern>>,
+        /// Whether the digest of each content is printed.
+        digests: bool,
     },
     /// The names in a folder of the image's trees are put.
     Ls {
@@ -126,8 +131,11 @@ pub enum ImageWork {
         /// Only of those that one of the patterns matches, where there are any patterns.
         include: Option<List<Pattern>>,
     },
-    /// It is told that the image has no damage.
-    Verify,
+    /// It is reported that the image has no damage.
+    Verify {
+        /// Whether the contents of nodes are judged too.
+        nodes: bool,
+    },
     /// The lines of the source are answered.
     Serve,
 }

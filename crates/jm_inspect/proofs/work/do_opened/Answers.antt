@@ -1,4 +1,4 @@
-use Rattle.std.proofs.Common.{refl, sym}
+use Rattle.std.proofs.Common.{◌∙◌, false, refl, sym}
 use Rattle.jm_texts.specs.InfoText.{info_text}
 use Rattle.jm_outside.specs.Shelves.{shelf_at}
 use Rattle.jm_words.specs.declared.tasks.ImageWork.TheVariants as work
@@ -12,15 +12,23 @@ returns-in-Info-clause-comes g c =
     rw c.in-Info.is (index_put work.Info info_text _ (shelf_at g.S.Shelf c.args.shelf.now) c.args.image.now.front _ _ _ c.requires.there
     (λ b t. refl) c.put_info.ensures)
 
-pub returns-in-Verify-clause-comes : goal.returns-in-Verify-clause-comes
-returns-in-Verify-clause-comes g c =
-    rw c.in-Verify.is (index_put work.Verify verify_text _ (shelf_at g.S.Shelf c.args.shelf.now) c.args.image.now.front _ _ _
-    c.requires.there (λ b t. refl) c.put_verified.ensures)
+pub returns-in-Verify-false-clause-comes : goal.returns-in-Verify-false-clause-comes
+returns-in-Verify-false-clause-comes g c =
+    rw (c.in-Verify-false.is, sym c.in-Verify-false.nodes-is ∙ c.in-Verify-false.nodes-test) (index_put (work.Verify false) verify_text _
+    (shelf_at g.S.Shelf c.args.shelf.now) c.args.image.now.front _ _ _ c.requires.there (λ b t. refl) c.put_verified.ensures)
 
-pub returns-in-List-clause-comes : goal.returns-in-List-clause-comes
-returns-in-List-clause-comes g c =
-    rw c.in-List.is (index_put (work.List c.in-List.include) (λ b. list_text b c.in-List.include) _ (shelf_at g.S.Shelf c.args.shelf.now)
-    c.args.image.now.front _ _ _ c.requires.there (λ b t. refl) c.put_list.ensures)
+pub returns-in-Verify-true-clause-comes : goal.returns-in-Verify-true-clause-comes
+returns-in-Verify-true-clause-comes g c = rw (c.in-Verify-true.is, sym c.in-Verify-true.nodes-is ∙ c.in-Verify-true.nodes-test) c.put_judged.ensures.comes
+
+pub returns-in-List-default-false-clause-comes : goal.returns-in-List-default-false-clause-comes
+returns-in-List-default-false-clause-comes g c =
+    let include = c.in-List-default-false.include in
+    rw (c.in-List-default-false.is, sym c.in-List-default-false.digests-is ∙ c.in-List-default-false.digests-test) (index_put (work.List include false) (λ b. list_text b include) _
+    (shelf_at g.S.Shelf c.args.shelf.now) c.args.image.now.front _ _ _ c.requires.there (λ b t. refl) c.put_list.ensures)
+
+pub returns-in-List-default-true-clause-comes : goal.returns-in-List-default-true-clause-comes
+returns-in-List-default-true-clause-comes g c =
+    rw (c.in-List-default-true.is, sym c.in-List-default-true.digests-is ∙ c.in-List-default-true.digests-test) c.put_digest_list.ensures.comes
 
 pub returns-in-Cat-clause-comes : goal.returns-in-Cat-clause-comes
 returns-in-Cat-clause-comes g c = rw (c.in-Cat.is, sym c.as_slice.ensures) c.cat_file.ensures.comes

@@ -1,18 +1,14 @@
-use Rattle.std.proofs.Common.{◌≡◌, [], get_or, sym, ap, ◌∙◌, arith, rules}
-use Rattle.std.proofs.lemmas.List.{get_or_default}
+use Rattle.std.proofs.Common.{◌∙◌, sym}
 use Rattle.jm_pattern.specs.ComputedMatching.{matches}
-use Rattle.jm_plugins.proofs.OrderLaws.{rank_here}
+use Rattle.jm_plugins.proofs.RankLaws.{rank_of_map, rank_of_names}
 use Rattle.jm_plugins.proofs.order.rank.Goals as goal
 
-pub returns-then-matches : goal.returns-then-matches
-returns-then-matches c =
-    let patterns = c.args.patterns.now in
-    let name = c.args.name.now in
-    let here : get_or patterns c.loop-number.number [] ≡ c.index-patterns-number.result =
-    get_or_default patterns c.loop-number.number [] c.index-patterns-number.result c.loop-number-test.true
-    ∙ sym c.index-patterns-number.is in
-    sym (rank_here patterns name c.loop-number.number (omega (arith, c.loop-number-test.true)) c.loop-number.invariant
-    (λ below. ap (λ p. matches p name) here ∙ sym c.matches.ensures.value ∙ c.if-matches.true))
+pub returns-in-Patterns : goal.returns-in-Patterns
+returns-in-Patterns c =
+    let own = c.first_match.ensures ∙ sym (rank_of_map matches c.in-Patterns.index.now c.args.name.now) in
+    rw c.in-Patterns.is own
 
-pub returns : goal.returns
-returns c = search (rules, rank_here)
+pub returns-in-Names : goal.returns-in-Names
+returns-in-Names c =
+    let own = c.first_place.ensures ∙ rank_of_names c.in-Names.index.now c.args.name.now in
+    rw c.in-Names.is own

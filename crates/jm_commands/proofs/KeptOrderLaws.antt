@@ -1,0 +1,62 @@
+-- What is asked of a link of an image's modules, with the order of the image.
+use Rattle.std.proofs.Common.{◌≡◌, inl, inr, ℕ, false, ◌||◌, List, [], ◌∷◌, map, refl, ap, sym, ◌∙◌}
+use Rattle.std.proofs.lemmas.Bool.{true≢false}
+use Rattle.std.specs.List.{list_any}
+use Rattle.jm_filed.specs.FileOrder.{file_order}
+use Rattle.jm_link.specs.ImageTaken.{TakesLinked}
+use Rattle.jm_link.specs.Links.{request_of}
+use Rattle.jm_words.specs.declared.tasks.LinkTask.{LinkTask}
+use Rattle.jm_words.specs.declared.tasks.Plugin.{Plugin}
+use Rattle.jm_words.specs.declared.tasks.Plugin.TheVariants as plugin
+use Rattle.jm_commands.specs.KeptOrder.{keeps_order, ordered_by, with_order}
+
+-- plug-ins of which none keeps an order stay as they are
+pub none_keeps : (names : List (List ℕ)) (plugins : List Plugin) → list_any keeps_order plugins ≡ false
+    → map (with_order names) plugins ≡ plugins
+none_keeps names [] none = refl
+none_keeps names (one ∷ later) none = go one none (none_keeps names later)
+  where
+    more : (p : Plugin) → map (with_order names) later ≡ later → p ∷ map (with_order names) later ≡ p ∷ later
+    more p = ap (λ ps. p ∷ ps)
+
+    go : (p : Plugin) → (keeps_order p || list_any keeps_order later) ≡ false
+        → (list_any keeps_order later ≡ false → map (with_order names) later ≡ later)
+        → with_order names p ∷ map (with_order names) later ≡ p ∷ later
+    go (plugin.KeepOrder given) some rest = absurd (true≢false some)
+    go (plugin.Exclude patterns) none rest = more (plugin.Exclude patterns) (rest none)
+    go (plugin.Order patterns) none rest = more (plugin.Order patterns) (rest none)
+    go plugin.Strip none rest = more plugin.Strip (rest none)
+    go plugin.Compact none rest = more plugin.Compact (rest none)
+    go plugin.Packages none rest = more plugin.Packages (rest none)
+    go plugin.DropSystemModules none rest = more plugin.DropSystemModules (rest none)
+
+-- a link with these plug-ins
+abbrev with_plugins : LinkTask → List Plugin → LinkTask
+with_plugins link plugins = record {
+  source = link.source;
+  roots = link.roots;
+  output = link.output;
+  plugins = plugins;
+  order = link.order;
+  bind = link.bind;
+  release = link.release;
+}
+
+-- a link of which no plug-in keeps an order is asked for as it is
+pub unordered : (b : List ℕ) (link : LinkTask) → list_any keeps_order link.plugins ≡ false → link ≡ ordered_by b link
+unordered b link none = ap (with_plugins link) (sym (none_keeps (file_order b) link.plugins none))
+
+-- without plug-ins it is the same request
+pub plain_request : (b : List ℕ) (link : LinkTask) → link.plugins ≡ [] → request_of (ordered_by b link) ≡ request_of link
+plain_request b link none =
+    ap (λ (plugins : List Plugin). request_of (with_plugins link plugins)) (ap (map (with_order (file_order b))) none ∙ sym none)
+
+-- what a link takes doesn't depend on its plug-ins
+pub takes_as_asked : (b : List ℕ) (link : LinkTask) (old new : ℕ) → TakesLinked b (request_of (ordered_by b link)) old new
+    → TakesLinked b (request_of link) old new
+takes_as_asked b link old new (inl infos) = inl infos
+takes_as_asked b link old new (inr (resources, chosen, all)) = inr (
+  resources,
+  record { seen = chosen.seen; shows = chosen.shows; places = chosen.places; closes = chosen.closes; are = chosen.are },
+  all,
+)
