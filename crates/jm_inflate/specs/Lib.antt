@@ -1,0 +1,13 @@
+pub mod Adler
+pub mod Bits
+pub mod Codes
+pub mod Counting
+pub mod Crc
+pub mod Inflated
+pub mod Items
+pub mod Lengths
+pub mod Readable
+pub mod Steps
+pub mod Tables
+pub mod Words
+pub mod Zlib
