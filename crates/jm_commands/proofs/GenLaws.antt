@@ -16,7 +16,7 @@ use Rattle.jm_commands.specs.Gen.{gen_link, image_path, made_first, modules_path
 use Rattle.jm_commands.specs.LinkText.{gen_text}
 use Rattle.jm_inspect.specs.Outcome.{Outcome, done, reading}
 use Rattle.jm_commands.specs.Outcome.{behind, making}
-use Rattle.jm_inspect.specs.Steps.{Answers, FilesFirst, FilesMade, IsFailure, PutDoes, StandAll, StepComesTo}
+use Rattle.jm_inspect.specs.Steps.{Answers, FilesFirst, FilesMade, PutDoes, StandAll, StandSafe, StepComesTo}
 use Rattle.jm_commands.specs.Run.{GenComesTo, LinkComesTo}
 use Rattle.jm_commands.specs.Stops.{stop_of_link}
 use Rattle.jm_inspect.specs.World.{World}
@@ -38,18 +38,36 @@ all_behind made writes shelf now new first whole more = record {
   whole = λ some. whole;
 }
 
--- what was made stands, or the step failed and nothing was put
+-- and whose making was ended
+safe_behind : (made writes : Writes) (shelf now new : ShelfSeen) → MadeAll made shelf.told now.told → IsTrue new.whole
+    → IsTrue new.durable → StandSafe writes now new → StandSafe (made ++ writes) shelf new
+safe_behind made writes shelf now new first whole durable more = record {
+  stand = all_behind made writes shelf now new first whole more.stand;
+  durable = λ some. durable;
+}
+
+-- a step that stopped: what was made stands, unless it failed
+abbrev pub Stopped : Result (Unit {0}) Stop → ShelfSeen → Type 0
+Stopped (Ok _) new = ⊥
+Stopped (Err (stop.Complaint given)) new = IsTrue new.whole
+Stopped (Err stop.Outside) new = Unit {0}
+Stopped (Err stop.Memory) new = Unit {0}
+
+-- what was made stands and making it was ended, or the step stopped and nothing was put
 abbrev pub EndsFiles : Result (Unit {0}) Stop → World → World → Type 0
-EndsFiles answer now new = IsTrue new.shelf.whole ⊎ (IsFailure answer × (new.out.told ≡ now.out.told))
+EndsFiles answer now new =
+    (IsTrue new.shelf.whole × IsTrue new.shelf.durable) ⊎ (Stopped answer new.shelf × (new.out.told ≡ now.out.told))
 
 files_behind : (made writes : Writes) (answer : Result (Unit {0}) Stop) (shelf : ShelfSeen) (now new : World)
     → MadeAll made shelf.told now.shelf.told → EndsFiles answer now new → FilesMade answer writes now.shelf new.shelf
     → FilesMade answer (made ++ writes) shelf new.shelf
-files_behind made writes (Ok _) shelf now new first (inl whole) more = all_behind made writes shelf now.shelf new.shelf first whole more
-files_behind made writes (Ok _) shelf now new first (inr (failed, unput)) more = absurd failed
-files_behind made writes (Err (stop.Complaint given)) shelf now new first (inl whole) more =
+files_behind made writes (Ok _) shelf now new first (inl (whole, durable)) more =
+    safe_behind made writes shelf now.shelf new.shelf first whole durable more
+files_behind made writes (Ok _) shelf now new first (inr (stopped, unput)) more = absurd stopped
+files_behind made writes (Err (stop.Complaint given)) shelf now new first (inl (whole, durable)) more =
     all_behind made writes shelf now.shelf new.shelf first whole more
-files_behind made writes (Err (stop.Complaint given)) shelf now new first (inr (failed, unput)) more = absurd failed
+files_behind made writes (Err (stop.Complaint given)) shelf now new first (inr (whole, unput)) more =
+    all_behind made writes shelf now.shelf new.shelf first whole more
 files_behind made writes (Err stop.Outside) shelf now new first ends more = part_append made writes shelf.told now.shelf.told
     new.shelf.told first more
 files_behind made writes (Err stop.Memory) shelf now new first ends more = part_append made writes shelf.told now.shelf.told
@@ -58,11 +76,11 @@ files_behind made writes (Err stop.Memory) shelf now new first ends more = part_
 -- the output is put after all of them
 first_behind_made : (made writes : Writes) (answer : Result (Unit {0}) Stop) (shelf : ShelfSeen) (now new : World)
     → MadeAll made shelf.told now.shelf.told → EndsFiles answer now new → FilesFirst writes now new
-    → StandAll (made ++ writes) shelf new.shelf ⊎ (new.out.told ≡ now.out.told)
-first_behind_made made writes answer shelf now new first (inl whole) (inl more) =
-    inl (all_behind made writes shelf now.shelf new.shelf first whole more)
-first_behind_made made writes answer shelf now new first (inl whole) (inr unput) = inr unput
-first_behind_made made writes answer shelf now new first (inr (failed, unput)) files = inr unput
+    → StandSafe (made ++ writes) shelf new.shelf ⊎ (new.out.told ≡ now.out.told)
+first_behind_made made writes answer shelf now new first (inl (whole, durable)) (inl more) =
+    inl (safe_behind made writes shelf now.shelf new.shelf first whole durable more)
+first_behind_made made writes answer shelf now new first (inl safe) (inr unput) = inr unput
+first_behind_made made writes answer shelf now new first (inr (stopped, unput)) files = inr unput
 
 module _ (made : Writes) (shelf : ShelfSeen) (now new : World) (first : MadeAll made shelf.told now.shelf.told)
     (kept : now.shelf.faults ≡ shelf.faults) where
@@ -98,8 +116,8 @@ module _ (made : Writes) (shelf : ShelfSeen) (now new : World) (first : MadeAll 
 -- after a link that stopped
 stopped_files : (given : LinkStop) (now new : World) → AfterStep {A = Summary} (IsTrue new.shelf.whole) (Err given) → new.out.told
     ≡ now.out.told → EndsFiles (Err (stop_of_link given)) now new
-stopped_files (link_stop.Refused refusal) now new whole unput = inl whole
-stopped_files (link_stop.NotThere listed) now new whole unput = inl whole
+stopped_files (link_stop.Refused refusal) now new whole unput = inr (whole, unput)
+stopped_files (link_stop.NotThere listed) now new whole unput = inr (whole, unput)
 stopped_files link_stop.Outside now new whole unput = inr (tt, unput)
 stopped_files link_stop.Memory now new whole unput = inr (tt, unput)
 
@@ -131,7 +149,7 @@ module _ (gen : GenTask) (shelf : ShelfSeen) (now new : World) where
       → now.shelf.faults ≡ shelf.faults → new.input ≡ now.input → Links (modules_path gen ∷ []) (request_of (gen_link gen))
       (image_path gen) (Ok summary) now.shelf new.shelf → PutDoes (done (gen_text summary)) answer now.out new.out → Does answer
   gen_put summary answer made kept input links put =
-      linked_after answer made kept (inl links.3.whole) (link_put gen_text (gen_link gen) (modules_path gen ∷ []) now
+      linked_after answer made kept (inl (links.3.whole, links.3.durable)) (link_put gen_text (gen_link gen) (modules_path gen ∷ []) now
       new input summary answer links put)
 
   -- all was made, and the link stopped

@@ -104,7 +104,8 @@ module _ (text : Summary → List ℕ) (link : LinkTask) (Comes : Result LinkedI
     linked text link image,
     as_due (Ok image) comes,
     made_put ((link.output, image.bytes) ∷ []) (text (summary_of image)) answer old new
-        (record { made = stands.holds; whole = λ some. stands.whole }) stands.kept input
+        (record { stand = record { made = stands.holds; whole = λ some. stands.whole }; durable = λ some. stands.durable })
+        stands.kept input
         (subst (λ (s : Summary). PutDoes (done (text s)) answer old.out new.out) is puts),
   )
 

@@ -111,7 +111,8 @@ module _ (early : Early) (due : Outcome) (old new : World) where
       record {
         output = step.output;
         line = subst (λ (text : List ℕ). Gets text err err) (sym step.answers.1) (gets_nothing err err refl);
-        files = step.files;
+        files = step.files.stand;
+        durable = λ done. step.files.durable;
       },
     );
     source = source_map due.session (StopsAs (Ok tt)) (EndsAs status.Done err err) old new (ends_plain err (Ok tt)) step.source;
@@ -166,6 +167,7 @@ module _ (early : Early) (due : Outcome) (old new : World) where
         output = step.output;
         line = subst (λ (text : List ℕ). Gets text err new_err) (sym step.answers.1) put;
         files = step.files;
+        durable = λ done. absurd (complains_undone given (sym done ∙ step.answers.0));
       }
 
       front : GetsFront (line_of given) err new_err → DoesFront due old new err new_err

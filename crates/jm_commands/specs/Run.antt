@@ -1,5 +1,5 @@
 -- What a run did to the outside, said by what its command comes to (this project's rule).
-use Rattle.std.specs.Prelude.{ℕ, ◌≡◌, ◌⊎◌, List, Option, option_map, Result, Ok, Err}
+use Rattle.std.specs.Prelude.{ℕ, ◌≡◌, ◌≢◌, ◌⊎◌, IsTrue, List, [], Option, option_map, Result, Ok, Err}
 use Rattle.jm_outside.specs.Made.{MadePart, written}
 use Rattle.jm_jrt.specs.TreesShown.{ShowsTrees}
 use Rattle.jm_texts.specs.declared.refusal.Refusal.{Refusal}
@@ -121,11 +121,13 @@ EndsStep (Err (stop.Complaint complaint)) is err new_err = ReportDoes complaint 
 EndsStep (Err stop.Outside) is err new_err = (is ≡ status.Outside) × (new_err ≡ err)
 EndsStep (Err stop.Memory) is err new_err = (is ≡ status.Memory) × (new_err ≡ err)
 
--- all was done: the sinks got their texts, and the files were made and stand
+-- all was done: the sinks got their texts, and the files were made and stand; with `Done` making
+-- them was ended
 pub record DoesAll (due : Outcome) (old new : World) (err new_err : Seen (List ℕ)) : Type 0 where
   pub output : Gets due.output old.out new.out
   pub line : Gets due.line err new_err
   pub files : StandAll due.writes old.shelf new.shelf
+  pub durable : due.status ≡ status.Done → due.writes ≢ [] → IsTrue new.shelf.durable
 
 -- a front of all was done: some files, or all of them and a front of the output
 pub record DoesFront (due : Outcome) (old new : World) (err new_err : Seen (List ℕ)) : Type 0 where

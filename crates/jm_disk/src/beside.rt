@@ -17,20 +17,19 @@ pub const MOST_NAMES: u32 = 1_000;
 /// The longest name, in bytes, that what isn't finished has in its own.
 const MOST_NAME_BYTES: usize = 230;
 
-/// Whether a name is that of a file or a folder that isn't finished.
-pub fn is_unfinished(name: &str) -> bool {
+/// Whose an unfinished file or folder is, by its name in the folder that has it: a run has it locked
+/// while it goes on. None of any other file or folder.
+pub fn unfinished_at<R: Files<File = File>>(rt: &R, path: Path<'_>, name: &str) -> Option<Reason> {
     let front = name.trim_end_matches(|sign: char| sign.is_ascii_digit());
-    front.len() < name.len() && front.ends_with(MARK)
-}
-
-/// Whose an unfinished file or folder is: a run has it locked while it goes on.
-pub fn whose_unfinished<R: Files<File = File>>(rt: &R, path: Path<'_>) -> Reason {
+    if front.len() == name.len() || !front.ends_with(MARK) {
+        return None;
+    }
     let Ok(found) = fs::open(rt, path) else {
-        return Reason::Unfinished;
+        return Some(Reason::Unfinished);
     };
     match found.try_lock_shared() {
-        Err(TryLockError::WouldBlock) => Reason::Underway,
-        Err(TryLockError::Error(_)) | Ok(()) => Reason::Unfinished,
+        Err(TryLockError::WouldBlock) => Some(Reason::Underway),
+        Err(TryLockError::Error(_)) | Ok(()) => Some(Reason::Unfinished),
     }
 }
 

@@ -6,7 +6,7 @@ use std::io::ErrorKind;
 use std::{fmt, io};
 
 /// Why a call on a file or a folder of the system gave up. Its text says it to a user.
-#[derive(Debug, Drop)]
+#[derive(Drop)]
 pub enum Reason {
     /// What the system answered.
     System(io::Error),
@@ -67,7 +67,7 @@ impl fmt::Display for Reason {
 }
 
 /// Why a call gave up, and where, if that isn't the path that the call was given.
-#[derive(Debug, Drop)]
+#[derive(Drop)]
 pub struct FileError {
     pub reason: Reason,
     pub place: Option<String>,

@@ -1,11 +1,13 @@
-ghost use Rattle.std.specs.Prelude.{◌≡◌, None, Ok, is_none, IsOk, IsTrue, IfOk, IsErrOf};
+ghost use Rattle.std.specs.Prelude.{◌≡◌, ◌&&◌, None, Ok, is_none, IsOk, IsTrue, IfOk, OnOk, IsErrOf};
 ghost use Rattle.jm_outside.specs.Outcome.{CountsFaults};
 
+use crate::beside::flush_folder;
 use crate::file_error::{FileError, Reason};
 use crate::folders::names_in;
 use crate::new_file::{NewFile, append_at, make};
 use crate::new_folder::NewFolder;
-use crate::parts::{ClosedFile, PartedFile, open_for};
+use crate::parts::{ClosedFiles, PartedFile, open_after};
+use crate::paths::folder_of;
 use crate::reading::read_at;
 use jm_bytes::{List, Text};
 use jm_outside::{Handed, Shelf, ShelfError};
@@ -21,7 +23,9 @@ use std::{io, str};
 /// A file is made beside its place, in the same folder, as its name with `.jm_tool-` and a number
 /// after it, and takes its name when it is complete. So what was at its path is replaced whole or
 /// stays, and no other run sees a part of it. Where folders of its path are missing, the highest of
-/// them is made so, with all below it, until making files ends or one elsewhere is made.
+/// them is made so, with all below it, and takes its name when making files ends, so that all is
+/// there at once. Before that it takes its name only where a file elsewhere is made, or a call
+/// looks at other files than the one that is open to be read in parts.
 ///
 /// The file that was made last is open and unfinished until the next one is made, or until a call
 /// looks at files or ends their making. Bytes go to the system at once, and to the end of the file;
@@ -29,17 +33,18 @@ use std::{io, str};
 ///
 /// The file of which the length or a part was asked last is open until another file's is, or until
 /// one is made or added to at its path, spelled the same: what comes of it is of one file, whatever
-/// stands at its path by then. It stays open while other files are made. Of the files of which parts
-/// were given, the one that was closed last is known again: another file in its place is a fault,
-/// unless the shelf made it.
+/// stands at its path by then. It stays open while other files are made. A file of which a part was
+/// given, and not the whole, is known again when it is opened once more: another one in its place,
+/// or one that changed, is a fault, unless the shelf made it.
 ///
 /// Each error of the system counts as one fault.
 #[derive(Drop)]
 pub struct FileShelf<'a, R: Files<File = File> + AllocGlobal> {
     rt: &'a R,
     made_last: Option<NewFile>,
-    parted: Option<PartedFile<R::File>>,
-    closed: Option<ClosedFile>,
+    folder: Option<NewFolder>,
+    parted: Option<PartedFile>,
+    closed: ClosedFiles,
     handed: Handed,
     faults: u64,
     last_failure: String,
@@ -48,17 +53,6 @@ pub struct FileShelf<'a, R: Files<File = File> + AllocGlobal> {
 /// The bytes for which the text of a failure has room from the start: a path as long as the system
 /// takes, and what went wrong there.
 const FAILURE_ROOM: usize = 4_608;
-
-/// Says what went wrong and where, at this path if at none of its own, as far as the text has room
-/// or memory is found.
-fn tell(text: &mut String, path: &[u8], error: FileError) {
-    let FileError { reason, place } = error;
-    text.clear();
-    let _told = match &place {
-        Some(place) => write!(text, "{place}: {reason}").is_ok(),
-        None => write!(text, "{}: {reason}", str::from_utf8(path).unwrap_or("")).is_ok(),
-    };
-}
 
 impl<'a, R: Files<File = File> + AllocGlobal> FileShelf<'a, R> {
     /// The shelf of a runtime's file system, which has no fault yet.
@@ -73,8 +67,9 @@ impl<'a, R: Files<File = File> + AllocGlobal> FileShelf<'a, R> {
         FileShelf {
             rt,
             made_last: None,
+            folder: None,
             parted: None,
-            closed: None,
+            closed: ClosedFiles::new(rt.alloc()),
             handed: Handed::new(),
             faults: 0,
             last_failure,
@@ -91,60 +86,74 @@ impl<'a, R: Files<File = File> + AllocGlobal> FileShelf<'a, R> {
         }
     }
 
-    /// Removes the file that isn't finished, if there is one.
+    /// Removes the file and the folder that aren't finished, if there are any.
     pub fn give_up(&mut self)
         ensures whole { IsTrue (is_none self.new.made_last) }
+        ensures folder { IsTrue (is_none self.new.folder) }
         ensures handed { self.new.handed ≡ self.old.handed }
         ensures faults { self.new.faults ≡ self.old.faults }
     {
         if let Some(file) = self.made_last.take() {
             file.remove(self.rt);
         }
+        if let Some(folder) = self.folder.take() {
+            folder.remove(self.rt);
+        }
     }
 
-    /// Has the file that isn't finished take its name, if there is one.
-    fn settle(&mut self) -> Result<(), ShelfError>
+    /// Ends the making of the file that isn't finished, if there is one: it takes its name, or
+    /// stays below the folder that isn't finished.
+    fn complete(&mut self) -> Result<(), ShelfError>
         ensures whole { IsTrue (is_none self.new.made_last) }
         ensures handed { self.new.handed ≡ self.old.handed }
         ensures faults { CountsFaults self.old.faults self.new.faults (IsOk result)
             (IsErrOf result ShelfError.Failed) }
     {
-        match self.made_last.take() {
-            Some(file) => {
-                let answer = file.take_place(self.rt);
-                self.judge(b"", answer)
+        let Some(file) = self.made_last.take() else {
+            return Ok(());
+        };
+        if let Some(folder) = &mut self.folder {
+            folder.keep(file);
+            return Ok(());
+        }
+        let answer = file.take_place(self.rt, false);
+        let _due = self.judge(b"", answer)?;
+        Ok(())
+    }
+
+    /// Has all that isn't finished take its name, the file and the folder.
+    fn settle(&mut self) -> Result<(), ShelfError>
+        ensures whole { IsTrue (is_none self.new.made_last) }
+        ensures folder { OnOk result (IsTrue (is_none self.new.folder)) }
+        ensures handed { self.new.handed ≡ self.old.handed }
+        ensures faults { CountsFaults self.old.faults self.new.faults (IsOk result)
+            (IsErrOf result ShelfError.Failed) }
+    {
+        self.complete()?;
+        match self.folder.take() {
+            Some(folder) => {
+                let answer = folder.take_place(self.rt);
+                let _due = self.judge(b"", answer)?;
+                Ok(())
             }
             None => Ok(()),
         }
     }
 
-    /// Closes the file that isn't finished, if there is one, as one for this path is to be made.
-    /// Gives the folder that isn't finished and holds the path; else what was made takes its name.
-    fn leave(&mut self, path: &[u8]) -> Result<Option<NewFolder>, ShelfError>
-        ensures handed { self.new.handed ≡ self.old.handed }
-        ensures faults { CountsFaults self.old.faults self.new.faults (IsOk result)
-            (IsErrOf result ShelfError.Failed) }
-    {
-        match self.made_last.take() {
-            Some(file) => {
-                let answer = file.leave(self.rt, path);
-                self.judge(b"", answer)
-            }
-            None => Ok(None),
-        }
-    }
-
-    /// Opens the file of a path to be read in parts, unless it is open already. None is open then
-    /// where no file is there.
+    /// Opens the file of a path to be read in parts, unless it is open already: it was there before
+    /// any folder that isn't finished. None is open then where no file is there.
     fn open(&mut self, path: &[u8]) -> Result<(), ShelfError>
         ensures whole { IsTrue (is_none self.new.made_last) }
         ensures handed { self.new.handed ≡ self.old.handed }
         ensures faults { CountsFaults self.old.faults self.new.faults (IsOk result)
             (IsErrOf result ShelfError.Failed) }
     {
+        if self.parted.as_ref().is_some_and(|file| file.is_for(path)) {
+            return self.complete();
+        }
         self.settle()?;
         let kept = self.parted.take();
-        let answer = open_for(self.rt, kept, &mut self.closed, path);
+        let answer = open_after(self.rt, kept, &mut self.closed, path);
         self.parted = self.judge(path, answer)?;
         Ok(())
     }
@@ -159,15 +168,15 @@ impl<'a, R: Files<File = File> + AllocGlobal> FileShelf<'a, R> {
         if self.parted.as_ref().is_some_and(|file| file.is_for(path)) {
             self.parted = None;
         }
-        if self.closed.as_ref().is_some_and(|file| file.is_for(path)) {
-            self.closed = None;
-        }
+        let _known = self.closed.remove(path);
     }
 
-    /// Hands on what a call answered. Where it failed, it counts a fault and keeps what failed.
+    /// Hands on what a call answered. Where it failed, it counts a fault and keeps what failed, at
+    /// this path if at none of its own.
     fn judge<T: Drop>(&mut self, path: &[u8], answer: Result<T, FileError>) -> Result<T, ShelfError>
         ensures answer { IfOk result (λ value. answer ≡ Ok value) }
         ensures made { self.new.made_last ≡ self.old.made_last }
+        ensures folder { self.new.folder ≡ self.old.folder }
         ensures handed { self.new.handed ≡ self.old.handed }
         ensures faults { CountsFaults self.old.faults self.new.faults (IsOk result)
             (IsErrOf result ShelfError.Failed) }
@@ -180,9 +189,18 @@ impl<'a, R: Files<File = File> + AllocGlobal> FileShelf<'a, R> {
                     ..
                 },
             ) => Err(ShelfError::Memory),
-            Err(error) => {
+            Err(FileError { reason, place }) => {
                 self.faults = self.faults.saturating_add(1);
-                tell(&mut self.last_failure, path, error);
+                let text = &mut self.last_failure;
+                text.clear();
+                // It is told as far as the text has room or memory is found.
+                let _told = match &place {
+                    Some(place) => write!(text, "{place}: {reason}").is_ok(),
+                    None => {
+                        let path = str::from_utf8(path).unwrap_or("");
+                        write!(text, "{path}: {reason}").is_ok()
+                    }
+                };
                 Err(ShelfError::Failed)
             }
         }
@@ -194,7 +212,11 @@ impl<'a, R: Files<File = File> + AllocGlobal> Shelf for FileShelf<'a, R> {
 
     ghost faults = { λ shelf. shelf.faults };
 
+    // Files below a folder that isn't finished are complete, but for the one that was made last.
     ghost whole = { λ shelf. is_none shelf.made_last };
+
+    // Both are gone where `finish` took them: it has the disk keep what was made last.
+    ghost durable = { λ shelf. is_none shelf.made_last && is_none shelf.folder };
 
     ghost handed = { λ shelf. shelf.handed };
 
@@ -277,19 +299,29 @@ impl<'a, R: Files<File = File> + AllocGlobal> Shelf for FileShelf<'a, R> {
     /// Makes the file beside its place, or, where folders of the path are missing, below the
     /// highest of them, which is made beside its own place. Where a file is at the path, or a link
     /// to one, it stays until the new one takes its name, which has its permissions; where anything
-    /// else is there, that is a fault, and so is a path that ends in no name. The file that was made
-    /// before takes its name first, unless both are below a folder that isn't finished.
+    /// else is there, that is a fault, and so is a path that ends in no name. What was made before
+    /// takes its name first, unless both are below a folder that isn't finished. After a refusal
+    /// nothing is unfinished, and what was is removed.
     fn create(&mut self, _alloc: Global, path: &[u8]) -> Result<(), ShelfError> {
         self.forget(path);
-        let folder = self.leave(path)?;
-        let answer = make(self.rt, folder, path);
+        self.complete()?;
+        if !self
+            .folder
+            .as_ref()
+            .is_some_and(|folder| folder.holds(path))
+        {
+            self.settle()?;
+        }
+        let answer = make(self.rt, &mut self.folder, path);
+        if answer.is_err() {
+            self.give_up();
+        }
         self.made_last = Some(self.judge(path, answer)?);
         Ok(())
     }
 
     /// Adds to the file that was made last, and else to one that is there, in its place: where none
-    /// is, that is a fault. Where bytes can't be added to the file that was made last, it is
-    /// removed.
+    /// is, that is a fault. After a refusal nothing is unfinished, and what was is removed.
     fn append(&mut self, _alloc: Global, path: &[u8], bytes: &[u8]) -> Result<(), ShelfError> {
         self.forget(path);
         let answer = match &mut self.made_last {
@@ -305,15 +337,18 @@ impl<'a, R: Files<File = File> + AllocGlobal> Shelf for FileShelf<'a, R> {
         self.judge(path, answer)
     }
 
-    /// Has the bytes of the file that was made last on the disk, has it take its name, and has that
-    /// on the disk. Where the bytes can't be had there, it is removed: the system tells of lost
-    /// bytes only once.
+    /// Has the bytes of the file that was made last on the disk, has it take its name, or the
+    /// folder below which it is, and has that on the disk. Where the bytes can't be had there, it
+    /// is removed, with that folder: the system tells of lost bytes only once.
     fn finish(&mut self, _alloc: Global) -> Result<(), ShelfError> {
-        let answer = match self.made_last.take() {
-            Some(file) => file.finish(self.rt),
-            None => Ok(()),
+        let answer = match (self.made_last.take(), self.folder.take()) {
+            (file, Some(folder)) => folder.finish(self.rt, file),
+            (Some(file), None) => file.take_place(self.rt, true),
+            (None, None) => return Ok(()),
         };
-        self.judge(b"", answer)
+        let due = self.judge(b"", answer)?;
+        let flushed = flush_folder(self.rt, folder_of(due.as_str()));
+        self.judge(due.as_bytes(), flushed)
     }
 
     ghost sound = { λ _. tt };

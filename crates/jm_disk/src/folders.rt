@@ -2,7 +2,7 @@
 ghost use Rattle.std.specs.Prelude.{◌∷◌, ◌++◌, [], All, IsUtf8, IfOk, IsTrue};
 ghost use Rattle.jm_outside.specs.Files.{Rising};
 
-use crate::beside::{is_unfinished, whose_unfinished};
+use crate::beside::unfinished_at;
 use crate::file_error::{FileError, Reason};
 use crate::paths::{Kind, is_absence, is_same, kind_at, listed_at, text_of};
 use jm_bytes::{List, Text};
@@ -118,8 +118,7 @@ fn add_entries<'a, R: Files<File = File> + AllocGlobal>(
         }
         tree.entry_count += 1;
         let name = entry.file_name();
-        if is_unfinished(name) {
-            let reason = whose_unfinished(rt, entry.path());
+        if let Some(reason) = unfinished_at(rt, entry.path(), name) {
             return Err(FileError::from(reason).at(alloc, entry.path().to_string_lossy()));
         }
         match kind {

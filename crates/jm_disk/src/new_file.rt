@@ -1,10 +1,8 @@
 //! A new file, which isn't finished until it is complete.
 use crate::beside::{MOST_NAMES, flush_folder, path_beside, remove_own};
 use crate::file_error::{FileError, Reason};
-use crate::new_folder::{NewFolder, make_folders, missing_folder};
-use crate::paths::{
-    Node, Place, ends_in_name, folder_of, is_file_at, node_of, place_at, stands_at, text_of,
-};
+use crate::new_folder::{NewFolder, folder_for, make_folders};
+use crate::paths::{Node, Place, ends_in_name, is_file_at, node_of, place_at, stands_at, text_of};
 use crate::rights::{ask_leave, first_rights, give_rights};
 use std::fs::{File, OpenOptions};
 use std::io::{ErrorKind, Write};
@@ -21,130 +19,88 @@ const NEW_MODE: u32 = 0o666;
 pub struct NewFile {
     /// The path that it was made for.
     path: String,
+    /// The path at which it stands.
+    own: String,
     file: File,
-    stand: Stand,
+    /// The place beside which it stands and that it is to take. None below a folder that isn't
+    /// finished, in which it has its own name.
+    due: Option<Due>,
 }
 
-/// Where a file stands that isn't finished.
+/// A place that a file is to take which stands beside it. The file is locked, where the disk has
+/// locks.
 #[derive(Drop)]
-enum Stand {
-    Beside(Beside),
-    Below(Below),
-}
-
-/// A folder that isn't finished either, and the path below it at which the file stands.
-#[derive(Drop)]
-struct Below {
-    own: String,
-    folder: NewFolder,
-}
-
-/// A place, and the path beside it at which the file stands that is to take it. It is locked, where
-/// the disk has locks.
-#[derive(Drop)]
-struct Beside {
+struct Due {
     /// The path that the file was made for, or that of the file to which a link there leads.
-    due: String,
-    own: String,
+    path: String,
     node: Node,
     is_replacing: bool,
 }
 
-/// Makes an empty file for a path, with the folders that are missing: below a folder that isn't
-/// finished, if one is given, which has to hold the path, and else beside the place. What stands
-/// there stays as it is until the new file takes its name.
+/// Makes an empty file for a path: below the folder that isn't finished, if one is given, which has
+/// to hold the path, and else beside the place. Where folders are missing, the highest of them is
+/// given from then on. What stands at the path stays as it is until the new file takes its name.
 pub fn make<R: Files<File = File> + AllocGlobal>(
     rt: &R,
-    folder: Option<NewFolder>,
+    folder: &mut Option<NewFolder>,
     path: &[u8],
 ) -> Result<NewFile, FileError> {
-    let path = String::from_str(rt.alloc(), text_of(path)?)?;
-    let made = match folder {
-        Some(folder) => make_below(rt, folder, path.as_str()),
-        None => match make_beside(rt, path.as_str()) {
+    let path = text_of(path)?;
+    if folder.is_none() {
+        match make_beside(rt, path) {
             Err(
                 FileError {
                     reason: Reason::System(e),
                     ..
                 },
-            ) if e.kind() == ErrorKind::NotFound => make_with_folders(rt, path.as_str()),
-            answer => answer,
-        },
-    };
-    let (file, stand) = made?;
-    Ok(NewFile { path, file, stand })
-}
-
-/// Makes a file where a folder of its path is missing. What is met by way of a folder that is made
-/// only now, as `no/../x`, is looked at once it is there.
-fn make_with_folders<R: Files<File = File> + AllocGlobal>(
-    rt: &R,
-    path: &str,
-) -> Result<(File, Stand), FileError> {
-    for _ in 0..path.len() {
-        let Some(missing) = missing_folder(rt, path)? else {
-            break;
-        };
-        let folder = NewFolder::make(rt, missing)?;
-        if folder.holds(path) {
-            return make_below(rt, folder, path);
+            ) if e.kind() == ErrorKind::NotFound => *folder = folder_for(rt, path)?,
+            answer => return answer,
         }
-        folder.take_place(rt)?;
     }
-    make_beside(rt, path)
+    match folder {
+        Some(folder) => make_below(rt, folder, path),
+        None => make_beside(rt, path),
+    }
 }
 
-/// Makes a file below a folder that isn't finished. Where something has its name there already, as
-/// on a disk that takes two names for one, the folder takes its place first.
+/// Makes a file below a folder that isn't finished, with the folders between both. Where something
+/// has its name already, as on a disk that takes two names for one, it is removed.
 fn make_below<R: Files<File = File> + AllocGlobal>(
-    rt: &R,
-    folder: NewFolder,
-    path: &str,
-) -> Result<(File, Stand), FileError> {
-    match open_below(rt, &folder, path) {
-        Ok(Some((own, file))) => Ok((file, Stand::Below(Below { own, folder }))),
-        Ok(None) => {
-            folder.take_place(rt)?;
-            make_beside(rt, path)
-        }
-        Err(e) => {
-            folder.remove(rt);
-            Err(e)
-        }
-    }
-}
-
-/// Opens a new file below a folder that isn't finished, and makes the folders between both. None
-/// where something has its name there.
-fn open_below<R: Files<File = File> + AllocGlobal>(
     rt: &R,
     folder: &NewFolder,
     path: &str,
-) -> Result<Option<(String, File)>, FileError> {
+) -> Result<NewFile, FileError> {
     if !ends_in_name(path) {
         return Err(FileError::from(Reason::NotFile));
     }
     let own = folder.inner_path(rt.alloc(), path)?;
+    let path = String::from_str(rt.alloc(), path)?;
     let opened = match open_new(rt, own.as_str(), NEW_MODE) {
         Err(e) if e.kind() == ErrorKind::NotFound => {
             make_folders(rt, own.as_str())?;
             open_new(rt, own.as_str(), NEW_MODE)
         }
+        Err(e) if e.kind() == ErrorKind::AlreadyExists => {
+            fs::remove_file(rt, own.as_str())?;
+            open_new(rt, own.as_str(), NEW_MODE)
+        }
         answer => answer,
     };
-    match opened {
-        Ok(file) => Ok(Some((own, file))),
-        Err(e) if e.kind() == ErrorKind::AlreadyExists => Ok(None),
-        Err(e) => Err(FileError::from(e)),
-    }
+    Ok(NewFile {
+        path,
+        own,
+        file: opened?,
+        due: None,
+    })
 }
 
 /// Makes a file beside the place at a path.
 fn make_beside<R: Files<File = File> + AllocGlobal>(
     rt: &R,
     path: &str,
-) -> Result<(File, Stand), FileError> {
+) -> Result<NewFile, FileError> {
     let place = place_at(rt, path)?;
+    let path = String::from_str(rt.alloc(), path)?;
     let mode = match &place.old {
         Some(old) => first_rights(old),
         None => NEW_MODE,
@@ -152,15 +108,17 @@ fn make_beside<R: Files<File = File> + AllocGlobal>(
     let (own, file) = open_beside(rt, place.path.as_str(), mode)?;
     match ready(rt, &file, &place) {
         Ok(node) => {
-            let Place { path: due, old } = place;
-            let is_replacing = old.is_some();
-            let beside = Beside {
-                due,
-                own,
+            let due = Due {
+                is_replacing: place.old.is_some(),
+                path: place.path,
                 node,
-                is_replacing,
             };
-            Ok((file, Stand::Beside(beside)))
+            Ok(NewFile {
+                path,
+                own,
+                file,
+                due: Some(due),
+            })
         }
         Err(e) => {
             if let Ok(found) = file.metadata() {
@@ -245,175 +203,94 @@ impl NewFile {
         Ok(())
     }
 
-    /// Closes the file, as one for another path is to be made. Gives the folder that isn't
-    /// finished, where it holds that path; else what was made takes its place, or is removed.
-    pub fn leave<R: Files<File = File> + AllocGlobal>(
-        self,
-        rt: &R,
-        next: &[u8],
-    ) -> Result<Option<NewFolder>, FileError> {
-        if !self.holds(next) {
-            self.take_place(rt)?;
-            return Ok(None);
+    /// Closes the file, once its bytes are on the disk where that is asked for or another file is
+    /// replaced, and has it take its place, of which it gives the path. Where it can't, it is
+    /// removed.
+    pub fn take_place<R: Files>(self, rt: &R, flushing: bool) -> Result<String, FileError> {
+        let NewFile {
+            path,
+            own,
+            file,
+            due,
+        } = self;
+        let Some(due) = due else {
+            return Ok(own);
+        };
+        let answer = due.confirm(rt, own.as_str(), &file, flushing || due.is_replacing);
+        if answer.is_err() {
+            remove_own(rt, own.as_str(), due.node);
         }
-        let NewFile { file, stand, .. } = self;
         drop(file);
-        match stand {
-            Stand::Below(below) => Ok(Some(below.folder.for_more())),
-            Stand::Beside(_beside) => Ok(None),
+        if let Err(e) = answer {
+            return Err(e.of(path));
         }
-    }
-
-    /// Whether the file stands below a folder that isn't finished and holds a path.
-    fn holds(&self, path: &[u8]) -> bool {
-        match (&self.stand, text_of(path)) {
-            (Stand::Below(below), Ok(path)) => below.folder.holds(path),
-            _ => false,
-        }
-    }
-
-    /// Closes what was made, which takes its place. Where it can't, it is removed.
-    pub fn take_place<R: Files<File = File> + AllocGlobal>(self, rt: &R) -> Result<(), FileError> {
-        let NewFile { path, file, stand } = self;
-        let answer = match stand {
-            Stand::Beside(beside) => {
-                let flushing = beside.is_replacing;
-                beside.take_place(rt, file, flushing)
+        match fs::rename(rt, own.as_str(), due.path.as_str()) {
+            Ok(()) => Ok(due.path),
+            Err(e) => {
+                remove_own(rt, own.as_str(), due.node);
+                Err(FileError::from(e).of(path))
             }
-            Stand::Below(below) => {
-                drop(file);
-                below.take_place(rt, path.as_str())
+        }
+    }
+
+    /// Waits until the bytes of a file below a folder that isn't finished are on the disk, and the
+    /// names on the way to it, from that folder on.
+    pub fn flush_below<R: Files<File = File> + AllocGlobal>(
+        &self,
+        rt: &R,
+        top: &str,
+    ) -> Result<(), FileError> {
+        if let Err(e) = self.file.sync_all() {
+            return Err(FileError::from(e).at(rt.alloc(), self.path.as_str()));
+        }
+        for (end, _) in self.own.match_indices('/') {
+            match self.own.get(..end) {
+                Some(folder) if end >= top.len() => flush_folder(rt, folder)?,
+                Some(_) | None => {}
             }
-        };
-        match answer {
-            Ok(_) => Ok(()),
-            Err(e) => Err(e.of(path)),
         }
+        Ok(())
     }
 
-    /// Waits until the bytes of the file are on the disk, has what was made take its place, and
-    /// waits until its name is on the disk, and the folders on the way to it that were made. Where
-    /// it can't take its place, it is removed.
-    pub fn finish<R: Files<File = File> + AllocGlobal>(self, rt: &R) -> Result<(), FileError> {
-        let NewFile { path, file, stand } = self;
-        let answer = match stand {
-            Stand::Beside(beside) => beside.take_place(rt, file, true),
-            Stand::Below(below) => below.finish(rt, file, path.as_str()),
-        };
-        let flushed = match answer {
-            Ok(due) => flush_folder(rt, folder_of(due.as_str())),
-            Err(e) => Err(e),
-        };
-        match flushed {
-            Ok(()) => Ok(()),
-            Err(e) => Err(e.of(path)),
+    /// Has a file that was made below a folder take its place by itself, at which nothing may be,
+    /// and gives that.
+    pub fn move_alone<R: Files + AllocGlobal>(&self, rt: &R) -> Result<String, FileError> {
+        let Place { path: due, old } = place_at(rt, self.path.as_str())?;
+        if old.is_some() {
+            return Err(FileError::from(io::Error::from(ErrorKind::AlreadyExists)));
         }
+        make_folders(rt, due.as_str())?;
+        fs::rename(rt, self.own.as_str(), due.as_str())?;
+        Ok(due)
     }
 
-    /// Closes the file and removes what was made.
-    pub fn remove<R: Files + AllocGlobal>(self, rt: &R) {
-        let NewFile { file, stand, .. } = self;
-        match stand {
-            Stand::Beside(beside) => remove_own(rt, beside.own.as_str(), beside.node),
-            Stand::Below(below) => below.folder.remove(rt),
+    /// Removes the file, if it stands beside its place, and closes it.
+    pub fn remove<R: Files>(self, rt: &R) {
+        let NewFile { own, file, due, .. } = self;
+        if let Some(due) = due {
+            remove_own(rt, own.as_str(), due.node);
         }
         drop(file);
     }
 }
 
-impl Beside {
-    /// Closes the file, once its bytes are on the disk where that is asked for, and has it take its
-    /// place, of which it gives the path. Where it can't, it is removed.
-    fn take_place<R: Files>(self, rt: &R, file: File, flushing: bool) -> Result<String, FileError> {
-        let answer = self.confirm(rt, &file, flushing);
-        if answer.is_err() {
-            remove_own(rt, self.own.as_str(), self.node);
-        }
-        drop(file);
-        answer?;
-        match fs::rename(rt, self.own.as_str(), self.due.as_str()) {
-            Ok(()) => Ok(self.due),
-            Err(e) => {
-                remove_own(rt, self.own.as_str(), self.node);
-                Err(FileError::from(e))
-            }
-        }
-    }
-
+impl Due {
     /// Waits until the bytes of the file are on the disk, where that is asked for. Another file at
     /// its path is a fault: as long as it is open, no other one has its numbers.
-    fn confirm<R: Files>(&self, rt: &R, file: &File, flushing: bool) -> Result<(), FileError> {
+    fn confirm<R: Files>(
+        &self,
+        rt: &R,
+        own: &str,
+        file: &File,
+        flushing: bool,
+    ) -> Result<(), FileError> {
         if flushing {
             file.sync_all()?;
         }
-        if stands_at(rt, self.own.as_str(), self.node)? {
+        if stands_at(rt, own, self.node)? {
             Ok(())
         } else {
             Err(FileError::from(Reason::Lost))
         }
     }
-}
-
-impl Below {
-    /// Has the folder take its place, of which it gives the path. Where another folder was made
-    /// there meanwhile, a file that is alone takes its own place there, for a path.
-    fn take_place<R: Files + AllocGlobal>(self, rt: &R, path: &str) -> Result<String, FileError> {
-        let Below { own, folder } = self;
-        match folder.rename(rt) {
-            Ok(()) => Ok(folder.into_place()),
-            Err(e) => {
-                let answer = if folder.holds_one() && is_in_the_way(&e) {
-                    move_alone(rt, own.as_str(), path)
-                } else {
-                    Err(e)
-                };
-                folder.remove(rt);
-                answer
-            }
-        }
-    }
-
-    /// The same, once the file is on the disk, with the folders on the way to it.
-    fn finish<R: Files<File = File> + AllocGlobal>(
-        self,
-        rt: &R,
-        file: File,
-        path: &str,
-    ) -> Result<String, FileError> {
-        let flushed = file.sync_all();
-        drop(file);
-        let answer = match flushed {
-            Ok(()) => self.folder.flush_way(rt, self.own.as_str()),
-            Err(e) => Err(FileError::from(e)),
-        };
-        match answer {
-            Ok(()) => self.take_place(rt, path),
-            Err(e) => {
-                self.folder.remove(rt);
-                Err(e)
-            }
-        }
-    }
-}
-
-/// Whether a folder couldn't take its place because another one is there.
-fn is_in_the_way(error: &FileError) -> bool {
-    match &error.reason {
-        Reason::System(e) => matches!(
-            e.kind(),
-            ErrorKind::DirectoryNotEmpty | ErrorKind::AlreadyExists
-        ),
-        _ => false,
-    }
-}
-
-/// Has the file at a path take another one, at which nothing is, and gives that.
-fn move_alone<R: Files + AllocGlobal>(rt: &R, own: &str, path: &str) -> Result<String, FileError> {
-    let Place { path: due, old } = place_at(rt, path)?;
-    if old.is_some() {
-        return Err(FileError::from(io::Error::from(ErrorKind::AlreadyExists)));
-    }
-    make_folders(rt, due.as_str())?;
-    fs::rename(rt, own, due.as_str())?;
-    Ok(due)
 }

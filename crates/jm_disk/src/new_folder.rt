@@ -1,12 +1,13 @@
 //! A new folder, which stands beside its place until all below it is made.
-use crate::beside::{MOST_NAMES, flush_folder, path_beside};
+use crate::beside::{MOST_NAMES, path_beside};
 use crate::file_error::{FileError, Reason};
-use crate::paths::{Node, behind_link, folder_of, is_absence, node_of, stands_at};
+use crate::new_file::NewFile;
+use crate::paths::{Node, behind_link, folder_of, is_absence, node_of, stands_at, text_of};
 use std::alloc::Global;
-use std::fs::{File, Metadata};
+use std::fs;
+use std::fs::File;
 use std::io::ErrorKind;
 use std::rt::Files;
-use std::{fs, io};
 
 /// A folder that was made and isn't finished yet. It stands under a name of its own, and is open,
 /// and locked, where it may be read and the disk has locks.
@@ -18,12 +19,34 @@ pub struct NewFolder {
     own: String,
     node: Node,
     held: Option<File>,
-    /// Whether one file at most was made below it.
-    holds_one: bool,
+    /// The file below it that was completed last.
+    last: Option<NewFile>,
+    /// Whether that is the only one.
+    is_alone: bool,
+}
+
+/// A folder beside the place of the highest one that is missing on the way to a path, if that leads
+/// below it; None where none is missing. What is met by way of a folder that is made only now, as
+/// `no/../x`, is looked at once it is there.
+pub fn folder_for<R: Files<File = File> + AllocGlobal>(
+    rt: &R,
+    path: &str,
+) -> Result<Option<NewFolder>, FileError> {
+    for _ in 0..path.len() {
+        let Some(missing) = missing_folder(rt, path)? else {
+            break;
+        };
+        let folder = NewFolder::make(rt, missing)?;
+        if folder.holds(path.as_bytes()) {
+            return Ok(Some(folder));
+        }
+        let _due = folder.take_place(rt)?;
+    }
+    Ok(None)
 }
 
 /// The highest folder of a path that isn't there, or None where all are.
-pub fn missing_folder<'p, R: Files>(rt: &R, path: &'p str) -> Result<Option<&'p str>, FileError> {
+fn missing_folder<'p, R: Files>(rt: &R, path: &'p str) -> Result<Option<&'p str>, FileError> {
     for (end, _) in path.match_indices('/') {
         match path.get(..end) {
             Some(folder) if !folder.is_empty() && is_missing(rt, folder)? => {
@@ -78,19 +101,9 @@ fn make_folder<R: Files>(rt: &R, folder: &str) -> Result<(), FileError> {
     }
 }
 
-/// What is known of a folder that was made just now, and the folder, open, where it may be read.
-fn held_at<R: Files<File = File>>(rt: &R, own: &str) -> io::Result<(Metadata, Option<File>)> {
-    let Ok(folder) = fs::open(rt, own) else {
-        return Ok((fs::symlink_metadata(rt, own)?, None));
-    };
-    // Where the disk has no locks it has none.
-    let _locked = folder.try_lock().is_ok();
-    Ok((folder.metadata()?, Some(folder)))
-}
-
 impl NewFolder {
     /// Makes a folder beside the place at a path, by the first name that is free.
-    pub fn make<R: Files<File = File> + AllocGlobal>(
+    fn make<R: Files<File = File> + AllocGlobal>(
         rt: &R,
         due: &str,
     ) -> Result<NewFolder, FileError> {
@@ -112,13 +125,23 @@ impl NewFolder {
         due: String,
         own: String,
     ) -> Result<NewFolder, FileError> {
-        match held_at(rt, own.as_str()) {
-            Ok((found, held)) => Ok(NewFolder {
+        let held = fs::open(rt, own.as_str()).ok();
+        let found = match &held {
+            Some(folder) => {
+                // Where the disk has no locks it has none.
+                let _locked = folder.try_lock().is_ok();
+                folder.metadata()
+            }
+            None => fs::symlink_metadata(rt, own.as_str()),
+        };
+        match found {
+            Ok(found) => Ok(NewFolder {
                 due,
                 own,
                 node: node_of(&found),
                 held,
-                holds_one: true,
+                last: None,
+                is_alone: false,
             }),
             Err(e) => {
                 let _removed = fs::remove_dir(rt, own.as_str()).is_ok();
@@ -127,62 +150,80 @@ impl NewFolder {
         }
     }
 
-    /// What follows the folder in a path that leads below it, from its slash on.
-    fn rest<'p>(&self, path: &'p str) -> Option<&'p str> {
-        let rest = path.strip_prefix(self.due.as_str())?;
-        (rest.starts_with('/') && !rest.contains("/../")).then_some(rest)
-    }
-
     /// Whether a path leads below the folder.
-    pub fn holds(&self, path: &str) -> bool {
-        self.rest(path).is_some()
+    pub fn holds(&self, path: &[u8]) -> bool {
+        let rest = match text_of(path) {
+            Ok(path) => path.strip_prefix(self.due.as_str()),
+            Err(_) => None,
+        };
+        rest.is_some_and(|rest| rest.starts_with('/') && !rest.contains("/../"))
     }
 
     /// Where a path below the folder stands as long as the folder isn't finished.
     pub fn inner_path(&self, alloc: Global, path: &str) -> Result<String, FileError> {
-        let rest = self.rest(path).unwrap_or("");
+        let rest = path.strip_prefix(self.due.as_str()).unwrap_or("");
         Ok(format!(in alloc; "{}{rest}", self.own)?)
     }
 
-    /// Waits until the names on the way to a file below the folder are on the disk.
-    pub fn flush_way<R: Files<File = File>>(&self, rt: &R, file: &str) -> Result<(), FileError> {
-        for (end, _) in file.match_indices('/') {
-            match file.get(..end) {
-                Some(folder) if end >= self.own.len() => flush_folder(rt, folder)?,
-                Some(_) | None => {}
+    /// Keeps a file below it that is complete.
+    pub fn keep(&mut self, file: NewFile) {
+        self.is_alone = self.last.is_none();
+        self.last = Some(file);
+    }
+
+    /// Takes its place, of which it gives the path. Where another folder was made there meanwhile,
+    /// a file that is alone below it takes its own place there. Where it can't, it is removed.
+    pub fn take_place<R: Files + AllocGlobal>(self, rt: &R) -> Result<String, FileError> {
+        let answer = match (self.rename(rt), &self.last) {
+            (Ok(()), _) => return Ok(self.due),
+            (
+                Err(
+                    FileError {
+                        reason: Reason::System(e),
+                        ..
+                    },
+                ),
+                Some(file),
+            ) if self.is_alone
+                && matches!(
+                    e.kind(),
+                    ErrorKind::DirectoryNotEmpty | ErrorKind::AlreadyExists
+                ) => { file.move_alone(rt) }
+            (Err(e), _) => Err(e),
+        };
+        self.remove(rt);
+        match answer {
+            Ok(due) => Ok(due),
+            Err(e) => Err(e.of(self.due)),
+        }
+    }
+
+    /// Takes its place, of which it gives the path, with the last file below it, if one is given,
+    /// once that is on the disk. Where it can't, it is removed.
+    pub fn finish<R: Files<File = File> + AllocGlobal>(
+        self,
+        rt: &R,
+        last: Option<NewFile>,
+    ) -> Result<String, FileError> {
+        let mut folder = self;
+        if let Some(file) = last {
+            folder.keep(file);
+        }
+        let flushed = match &folder.last {
+            Some(file) => file.flush_below(rt, folder.own.as_str()),
+            None => Ok(()),
+        };
+        match flushed {
+            Ok(()) => folder.take_place(rt),
+            Err(e) => {
+                folder.remove(rt);
+                Err(e.of(folder.due))
             }
         }
-        Ok(())
-    }
-
-    /// The folder, in which more than one file is made.
-    pub fn for_more(self) -> NewFolder {
-        let mut folder = self;
-        folder.holds_one = false;
-        folder
-    }
-
-    /// Whether one file at most was made below it.
-    pub fn holds_one(&self) -> bool {
-        self.holds_one
-    }
-
-    /// Takes its place. Where it can't, it is removed.
-    pub fn take_place<R: Files + AllocGlobal>(&self, rt: &R) -> Result<(), FileError> {
-        let answer = self.rename(rt);
-        if answer.is_err() {
-            self.remove(rt);
-        }
-        answer
-    }
-
-    /// The path that it takes.
-    pub fn into_place(self) -> String {
-        self.due
     }
 
     /// Has the folder take its place, unless another one stands at its path.
-    pub fn rename<R: Files>(&self, rt: &R) -> Result<(), FileError> {
+    fn rename<R: Files>(&self, rt: &R) -> Result<(), FileError> {
         if !stands_at(rt, self.own.as_str(), self.node)? {
             return Err(FileError::from(Reason::Lost));
         }

@@ -3,84 +3,76 @@ ghost use Rattle.std.specs.Prelude.{◌≡◌, ◌≤◌, IfOk, OnOk, length};
 
 use crate::file_error::{FileError, Reason};
 use crate::paths::{is_absence, is_file_at, node_of, text_of};
-use crate::reading::{MOST_BYTES, make_length, read_up_to, read_whole};
+use crate::reading::{MOST_BYTES, read_up_to};
 use jm_bytes::Text;
 use std::alloc::Global;
+use std::collections::BTreeMap;
 use std::fs;
-use std::fs::{Metadata, OpenFile};
-use std::io::{ErrorKind, Read, Seek, SeekFrom};
+use std::fs::{File, Metadata};
+use std::io::{ErrorKind, Seek, SeekFrom};
 use std::mem::replace;
-use std::os::unix::fs::MetadataExt;
+use std::os::unix::fs::{FileExt, MetadataExt};
 use std::rt::Files;
 
 /// A file that is open to be read in parts, the path at which it stood when it was opened, what the
-/// system said of it then, the length that was told of it last, the place from which the next read
-/// is, if that is known, and whether a part of it was given that isn't the whole.
+/// system said of it then, the length that was told of it last, and whether a part of it was asked
+/// for that isn't the whole.
 #[derive(Drop)]
-pub struct PartedFile<F: Read + Seek + OpenFile + Drop> {
+pub struct PartedFile {
     path: String,
-    file: F,
+    file: File,
     found: Metadata,
     told_length: u64,
-    place: Option<u64>,
     is_parted: bool,
 }
 
-/// A file of which parts were given and that isn't open any more, by which it is known again.
-#[derive(Drop)]
-pub struct ClosedFile {
-    path: String,
-    found: Metadata,
+/// What the system said of the files of which parts were given and that aren't open any more, by
+/// their paths.
+pub type ClosedFiles = BTreeMap<Vec<u8>, Metadata>;
+
+/// Whether both are said of one file, which didn't change.
+fn is_unchanged(one: &Metadata, other: &Metadata) -> bool {
+    node_of(one) == node_of(other)
+        && one.len() == other.len()
+        && (one.ctime(), one.ctime_nsec()) == (other.ctime(), other.ctime_nsec())
 }
 
-impl ClosedFile {
-    /// Whether the file was opened for this path.
-    pub fn is_for(&self, path: &[u8]) -> bool {
-        self.path.as_bytes() == path
-    }
-
-    /// Whether the system says this of the same file, which didn't change.
-    fn is_same(&self, found: &Metadata) -> bool {
-        node_of(&self.found) == node_of(found)
-            && self.found.len() == found.len()
-            && (self.found.ctime(), self.found.ctime_nsec()) == (found.ctime(), found.ctime_nsec())
-    }
-}
-
-/// The file of a path: the one that was kept, if it is for this path, and else the one that stands
-/// there, or None where none does. One that was closed in between must be the same.
-pub fn open_for<R: Files + AllocGlobal>(
+/// The file that stands at a path, or None where none does, after the one that was kept is closed.
+/// One of which a part was asked for before must be the same.
+pub fn open_after<R: Files<File = File> + AllocGlobal>(
     rt: &R,
-    kept: Option<PartedFile<R::File>>,
-    closed: &mut Option<ClosedFile>,
+    kept: Option<PartedFile>,
+    closed: &mut ClosedFiles,
     path: &[u8],
-) -> Result<Option<PartedFile<R::File>>, FileError> {
-    match kept {
-        Some(file) if file.is_for(path) => return Ok(Some(file)),
-        Some(file) => {
-            if let Some(file) = file.close() {
-                *closed = Some(file);
-            }
+) -> Result<Option<PartedFile>, FileError> {
+    if let Some(kept) = kept {
+        let PartedFile {
+            path,
+            file,
+            found,
+            is_parted,
+            ..
+        } = kept;
+        drop(file);
+        if is_parted {
+            let _before = closed.insert(path.into_bytes(), found)?;
         }
-        None => {}
     }
     let opened = open_at(rt, path)?;
-    let is_other = match (&opened, &*closed) {
-        (Some(file), Some(closed)) => closed.is_for(path) && !closed.is_same(&file.found),
-        _ => false,
-    };
-    if is_other {
-        return Err(FileError::from(Reason::Changed));
+    match (&opened, closed.get(path)) {
+        (Some(file), Some(known)) if !is_unchanged(known, &file.found) => {
+            Err(FileError::from(Reason::Changed))
+        }
+        _ => Ok(opened),
     }
-    Ok(opened)
 }
 
 /// Opens the file of a path, unless none is there. What is no file isn't opened: a pipe would wait
 /// for a writer.
-fn open_at<R: Files + AllocGlobal>(
+fn open_at<R: Files<File = File> + AllocGlobal>(
     rt: &R,
     path: &[u8],
-) -> Result<Option<PartedFile<R::File>>, FileError> {
+) -> Result<Option<PartedFile>, FileError> {
     let path = text_of(path)?;
     if !is_file_at(rt, path)? {
         return Ok(None);
@@ -100,39 +92,14 @@ fn open_at<R: Files + AllocGlobal>(
         file,
         found,
         told_length: 0,
-        place: Some(0),
         is_parted: false,
     }))
 }
 
-impl<F: Read + Seek + OpenFile + Drop> PartedFile<F> {
+impl PartedFile {
     /// Whether the file was opened for this path.
     pub fn is_for(&self, path: &[u8]) -> bool {
         self.path.as_bytes() == path
-    }
-
-    /// Closes the file. Gives what it is known by again, if a part of it was given: what follows is
-    /// to be of the same file.
-    fn close(self) -> Option<ClosedFile> {
-        let PartedFile {
-            path,
-            file,
-            found,
-            is_parted,
-            ..
-        } = self;
-        drop(file);
-        if is_parted {
-            Some(ClosedFile { path, found })
-        } else {
-            None
-        }
-    }
-
-    /// Notes that so many bytes from a place on were given.
-    fn note_part(&mut self, at: u64, count: usize) {
-        self.place = at.checked_add(count as u64);
-        self.is_parted |= at > 0 || (count as u64) < self.found.len();
     }
 
     /// How many bytes the file has now, which is told.
@@ -154,9 +121,9 @@ impl<F: Read + Seek + OpenFile + Drop> PartedFile<F> {
         }
         let mut bytes = Vec::new(alloc);
         if rest > 0 {
-            self.go_to(at)?;
+            self.is_parted |= at > 0 || count < rest;
+            self.file.seek(SeekFrom::Start(at))?;
             read_up_to(&mut self.file, count.min(rest), &mut bytes)?;
-            self.note_part(at, bytes.len());
         }
         let told = self.told_length.saturating_sub(at) as usize;
         if bytes.len() < count.min(told) {
@@ -176,27 +143,21 @@ impl<F: Read + Seek + OpenFile + Drop> PartedFile<F> {
         }
         let empty = Text::new(into.allocator());
         let mut bytes = replace(into, empty).into_vec();
-        make_length(&mut bytes, count)?;
-        if count > 0 {
-            self.go_to(at)?;
-            read_whole(&mut self.file, bytes.as_mut_slice())?;
-            self.note_part(at, count);
+        // Where it has too little room, what it holds isn't copied to new memory.
+        if bytes.capacity() < count {
+            bytes.clear();
+        }
+        bytes.resize(count, 0)?;
+        self.is_parted |= at > 0 || (count as u64) < self.found.len();
+        match self.file.read_exact_at(bytes.as_mut_slice(), at) {
+            Ok(()) => {}
+            // The system takes no place that is far after the end.
+            Err(e) if matches!(e.kind(), ErrorKind::UnexpectedEof | ErrorKind::InvalidInput) => {
+                return Err(FileError::from(Reason::Changed));
+            }
+            Err(e) => return Err(FileError::from(e)),
         }
         *into = Text::from_vec(bytes);
         Ok(())
-    }
-
-    /// Has the next read be from a place, by a call of the system only where it isn't already. From
-    /// then on the place is unknown until it is told anew: a read that fails may have moved on.
-    fn go_to(&mut self, at: u64) -> Result<(), FileError> {
-        if self.place.take() == Some(at) {
-            return Ok(());
-        }
-        match self.file.seek(SeekFrom::Start(at)) {
-            Ok(_) => Ok(()),
-            // The system takes no place that is far after the end.
-            Err(e) if e.kind() == ErrorKind::InvalidInput => Err(FileError::from(Reason::Changed)),
-            Err(e) => Err(FileError::from(e)),
-        }
     }
 }

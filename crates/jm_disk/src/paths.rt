@@ -29,19 +29,12 @@ pub fn folder_of(path: &str) -> &str {
     }
 }
 
-/// The numbers by which the system knows a file or a folder.
-#[derive(Clone, Copy, PartialEq, Eq)]
-pub struct Node {
-    device: u64,
-    inode: u64,
-}
+/// The numbers by which the system knows a file or a folder: those of its device and of its inode.
+pub type Node = (u64, u64);
 
 /// The numbers of what the system says this of.
 pub fn node_of(found: &Metadata) -> Node {
-    Node {
-        device: found.dev(),
-        inode: found.ino(),
-    }
+    (found.dev(), found.ino())
 }
 
 /// Whether what stands at a path, itself and no link to it, has these numbers.

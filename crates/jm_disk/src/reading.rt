@@ -84,32 +84,6 @@ pub fn read_up_to<F: Read>(file: &mut F, count: usize, bytes: &mut Vec<u8>) -> R
     Err(FileError::from(Reason::TooLarge))
 }
 
-/// Fills a slice from where the file stands. A file that ends before is a fault.
-pub fn read_whole<F: Read>(file: &mut F, slice: &mut [u8]) -> Result<(), FileError> {
-    for piece in slice.chunks_mut(MOST_PIECE) {
-        match file.read_exact(piece) {
-            Ok(()) => {}
-            Err(e) if e.kind() == ErrorKind::UnexpectedEof => {
-                return Err(FileError::from(Reason::Changed));
-            }
-            Err(e) => return Err(FileError::from(e)),
-        }
-    }
-    Ok(())
-}
-
-/// Gives a vector so many bytes, whatever they are. Where it has room for them it takes no memory,
-/// and else what it holds is not copied to new memory.
-pub fn make_length(bytes: &mut Vec<u8>, count: usize) -> Result<(), FileError>
-    ensures { OnOk result (length bytes.new.items ≡ count) }
-{
-    if bytes.capacity() < count {
-        bytes.clear();
-    }
-    bytes.resize(count, 0)?;
-    Ok(())
-}
-
 /// Makes room for a piece. Up to the length the room at most doubles, and hardly passes it.
 fn make_room(bytes: &mut Vec<u8>, room: usize, length: Option<u64>) -> Result<(), FileError>
     requires { room ≤ 262_144 }

@@ -24,12 +24,6 @@ pub fn first_rights(old: &Metadata) -> u32 {
     }
 }
 
-/// The rights without those that only the group, or only all others, had.
-fn common_rights(rights: u32) -> u32 {
-    let common = (rights >> 3) & rights & 0o7;
-    rights & 0o700 | common << 3 | common
-}
-
 /// Refuses to replace a file at a path that may not be written to. It is opened only where its
 /// rights don't show that it may: to open it costs some disks a copy of all that it holds.
 pub fn ask_leave<R: Files>(
@@ -51,11 +45,11 @@ pub fn ask_leave<R: Files>(
 /// Gives a new file the owner, the group and the rights of the old one, as far as the system lets
 /// it. Where it keeps the group to itself, all but the owner get what the group and all had.
 pub fn give_rights(file: &File, old: &Metadata, new: &Metadata) -> io::Result<()> {
-    let rights = if has_group(file, old, new) {
-        rights_of(old)
-    } else {
-        common_rights(rights_of(old))
-    };
+    let mut rights = rights_of(old);
+    if !has_group(file, old, new) {
+        let common = (rights >> 3) & rights & 0o7;
+        rights = rights & 0o700 | common << 3 | common;
+    }
     if rights_of(new) == rights {
         return Ok(());
     }

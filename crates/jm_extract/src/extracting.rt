@@ -120,6 +120,7 @@ fn make_files<S: Shelf>(
         → Makes result (writes_of dir.now (map (taken_as b) entries.now))
         (S.files shelf.old) (S.files shelf.new) }
     ensures whole { OnOk result (IsTrue (S.whole shelf.new)) }
+    ensures durable { OnOk result (IsTrue (S.durable shelf.new)) }
     ensures handed { S.handed shelf.new ≤ S.handed shelf.old + sizes entries.now }
     ensures faults { CountsFaults (S.faults shelf.old) (S.faults shelf.new) (IsOk result)
         (IsErrOf result ShelfError.Failed) }
@@ -161,6 +162,7 @@ pub fn extract<S: Shelf, R: Ledger>(
         → IsFileOf image.entry.index.now.bytes image.entry.index.now.length b
         → S.handed shelf.new ≤ S.handed shelf.old + taken_size b work.entry.include.now }
     ensures whole { OnOk result (IsTrue (S.whole shelf.new)) }
+    ensures durable { OnOk result (IsTrue (S.durable shelf.new)) }
     ensures faults { CountsFaults (S.faults shelf.old) (S.faults shelf.new) (IsOk result)
         (IsErrOf result ExtractStop.Outside) }
     ensures reads { IsLater reads.old reads.new }

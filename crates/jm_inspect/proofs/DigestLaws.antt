@@ -35,7 +35,7 @@ use Rattle.jm_inspect.specs.declared.stop.Stop.{Stop}
 use Rattle.jm_inspect.proofs.ContentLaws.{is_index}
 use Rattle.jm_inspect.proofs.FrontLaws.{index_there, of_work, opened}
 use Rattle.jm_inspect.proofs.Gotten.{front_of_all, gets_nothing}
-use Rattle.jm_inspect.proofs.Made.{stays_all, stays_part}
+use Rattle.jm_inspect.proofs.Made.{stays_part, unmade_safe}
 use Rattle.jm_inspect.proofs.PieceLaws.{broken, cut_passed, front_longer, last_put, text_put, text_unput, then_passed}
 use Rattle.jm_inspect.proofs.StepLaws.{on_any_text, put_step}
 
@@ -234,7 +234,7 @@ module _ (path : List ℕ) (shelf new : ShelfSeen) (stays : new.told ≡ shelf.t
     answers = tt;
     output = front;
     files = stays_part [] shelf.told new.told stays;
-    files_first = inl (record { made = stays_all shelf.told new.told stays; whole = λ some. absurd (some refl) });
+    files_first = inl (unmade_safe shelf new stays);
     source = refl;
     outside = λ failed. inl (refl, rose refl);
     none_rose = λ ok. cc;
@@ -243,7 +243,7 @@ module _ (path : List ℕ) (shelf new : ShelfSeen) (stays : new.told ≡ shelf.t
     answers = tt;
     output = front;
     files = stays_part [] shelf.told new.told stays;
-    files_first = inl (record { made = stays_all shelf.told new.told stays; whole = λ some. absurd (some refl) });
+    files_first = inl (unmade_safe shelf new stays);
     source = refl;
     outside = λ failed. cc;
     none_rose = λ ok. cc;

@@ -50,12 +50,12 @@ module _ (dir : List ℕ) (due : Result (List Named) Refusal) (old new : World) 
 
   -- the files were made, and then the text was put
   pub extract_put : (count : ℕ) (answer : Result (Unit {0}) Stop) → Extracts due dir (Ok count) old.shelf.told new.shelf.told
-      → IsTrue new.shelf.whole → new.shelf.faults ≡ old.shelf.faults → PutDoes (done (extract_text count)) answer old.out new.out
-      → Does answer
-  extract_put count answer (entries, is, counted, made) whole kept put =
+      → IsTrue new.shelf.whole → IsTrue new.shelf.durable → new.shelf.faults ≡ old.shelf.faults
+      → PutDoes (done (extract_text count)) answer old.out new.out → Does answer
+  extract_put count answer (entries, is, counted, made) whole durable kept put =
       subst (λ (d : Result (List Named) Refusal). StepDoes reading (extract_outcome dir d) answer old new) (sym is)
-      (made_put (writes_of dir entries) (extract_text (length entries)) answer old new (record { made = made; whole = λ some. whole })
-      kept input (subst (λ (n : ℕ). PutDoes (done (extract_text n)) answer old.out new.out) counted put))
+      (made_put (writes_of dir entries) (extract_text (length entries)) answer old new
+      (record { stand = record { made = made; whole = λ some. whole }; durable = λ some. durable }) kept input (subst (λ (n : ℕ). PutDoes (done (extract_text n)) answer old.out new.out) counted put))
 
   -- it stopped before anything was put
   pub extract_stopped : (given : ExtractStop) → Extracts due dir (Err given) old.shelf.told new.shelf.told

@@ -7,7 +7,6 @@ use Rattle.std.proofs.lemmas.List.{length-append, take-append-drop}
 use Rattle.std.proofs.Math.Seq.{take-append_seam}
 use Rattle.jm_bytes.proofs.Choice.{same_some}
 use Rattle.jm_bytes.specs.Metered.{Metered}
-use Rattle.jm_outside.specs.Made.{MadeAll}
 use Rattle.jm_outside.specs.Outcome.{CountsFaults, PutsFront, Shows, Told}
 use Rattle.jm_outside.specs.Shelves.{ShelfSeen}
 use Rattle.jm_jrt.specs.declared.serve_error.ServeError.{ServeError}
@@ -21,12 +20,12 @@ use Rattle.jm_inspect.specs.declared.complaint.Complaint.TheVariants as complain
 use Rattle.jm_inspect.specs.declared.stop.Stop.{Stop}
 use Rattle.jm_inspect.specs.declared.stop.Stop.TheVariants as stop
 use Rattle.jm_inspect.specs.Outcome.{reading, session_fault, session_outcome, session_with}
-use Rattle.jm_inspect.specs.Steps.{StandAll, StepDoes, StepOnText, status_of}
+use Rattle.jm_inspect.specs.Steps.{StandSafe, StepDoes, StepOnText, status_of}
 use Rattle.jm_inspect.specs.SessionHeld.{EndedBy, Held, StopsAs}
 use Rattle.jm_inspect.specs.Sinks.{Failed, Gets, GetsFront}
 use Rattle.jm_inspect.specs.Stops.{stop_of_session}
 use Rattle.jm_inspect.specs.World.{World}
-use Rattle.jm_inspect.proofs.Made.{stays_all, stays_part}
+use Rattle.jm_inspect.proofs.Made.{stays_part, unmade_safe}
 
 -- Which line ends it
 
@@ -126,19 +125,16 @@ module _ (b text : List ℕ) (old new : World) (shelf : new.shelf ≡ old.shelf)
   files : new.shelf.told ≡ old.shelf.told
   files = ap (λ (s : ShelfSeen). s.told) shelf
 
-  unmade : MadeAll [] old.shelf.told new.shelf.told
-  unmade = stays_all old.shelf.told new.shelf.told files
-
-  stand : StandAll [] old.shelf new.shelf
-  stand = record { made = unmade; whole = λ some. absurd (some refl) }
+  safe : StandSafe [] old.shelf new.shelf
+  safe = unmade_safe old.shelf new.shelf files
 
   step_ended : HeldAs (Ok tt) → Gets output old.out new.out → new.input.faults ≡ old.input.faults → new.out.faults ≡ old.out.faults
       → StepDoes reading (session_with b output None) (Ok tt) old new
   step_ended held gets input out = record {
     answers = (refl, refl);
     output = gets;
-    files = stand;
-    files_first = inl stand;
+    files = safe;
+    files_first = inl safe;
     source = held;
     outside = λ failed. cc;
     none_rose = λ ok. record { shelf = ap (λ (s : ShelfSeen). s.faults) shelf; input = input; out = out };
@@ -149,8 +145,8 @@ module _ (b text : List ℕ) (old new : World) (shelf : new.shelf ≡ old.shelf)
   step_broken given breaks held gets = record {
     answers = (breaks, refl);
     output = gets;
-    files = stand;
-    files_first = inl stand;
+    files = safe.stand;
+    files_first = inl safe;
     source = held;
     outside = λ failed. cc;
     none_rose = λ ok. cc;
@@ -163,7 +159,7 @@ module _ (b text : List ℕ) (old new : World) (shelf : new.shelf ≡ old.shelf)
     output = gets;
     files = stays_part [] old.shelf.told new.shelf.told
         files;
-    files_first = inl stand;
+    files_first = inl safe;
     source = held;
     outside = λ is. failed;
     none_rose = λ ok. cc;
@@ -173,7 +169,7 @@ module _ (b text : List ℕ) (old new : World) (shelf : new.shelf ≡ old.shelf)
     output = gets;
     files = stays_part [] old.shelf.told
         new.shelf.told files;
-    files_first = inl stand;
+    files_first = inl safe;
     source = held;
     outside = λ is. failed;
     none_rose = λ ok. cc;
@@ -185,7 +181,7 @@ module _ (b text : List ℕ) (old new : World) (shelf : new.shelf ≡ old.shelf)
     answers = tt;
     output = gets;
     files = stays_part [] old.shelf.told new.shelf.told files;
-    files_first = inl stand;
+    files_first = inl safe;
     source = held;
     outside = λ failed. cc;
     none_rose = λ ok. cc;
@@ -195,7 +191,7 @@ module _ (b text : List ℕ) (old new : World) (shelf : new.shelf ≡ old.shelf)
     output = gets;
     files = stays_part [] old.shelf.told new.shelf.told
         files;
-    files_first = inl stand;
+    files_first = inl safe;
     source = held;
     outside = λ failed. cc;
     none_rose = λ ok. cc;

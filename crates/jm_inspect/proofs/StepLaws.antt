@@ -18,13 +18,13 @@ use Rattle.jm_inspect.specs.FailedBefore.{FilesFailed, WorkFailed}
 use Rattle.jm_inspect.specs.FileParts.{ReadsFile}
 use Rattle.jm_inspect.specs.Outcome.{Early, Outcome, done, made_and_put, not_there, reading}
 use Rattle.jm_inspect.specs.Works.{FileComesTo}
-use Rattle.jm_inspect.specs.Steps.{FilesFirst, FilesMade, IsFailure, PutDoes, StandAll, StepComesTo, StepDoes, StepOnText, outcome_of}
-use Rattle.jm_inspect.specs.Steps.{status_of}
+use Rattle.jm_inspect.specs.Steps.{FilesFirst, FilesMade, IsFailure, PutDoes, StandAll, StandSafe, StepComesTo, StepDoes, StepOnText}
+use Rattle.jm_inspect.specs.Steps.{outcome_of, status_of}
 use Rattle.jm_inspect.specs.SessionHeld.{EndedBy, NotBegun, SourceRead}
 use Rattle.jm_inspect.specs.Sinks.{Failed, Gets, Seen}
 use Rattle.jm_inspect.specs.World.{NoneRose, World}
 use Rattle.jm_inspect.proofs.Gotten.{front_of_nothing, gets_nothing}
-use Rattle.jm_inspect.proofs.Made.{stays_all, stays_part}
+use Rattle.jm_inspect.proofs.Made.{stays_part, unmade_safe}
 
 -- an error of a step, by what it was made of
 pub from_stop : {A : Type 0} (answer : Result A Stop) (is : Stop) → IsErrAnd answer (λ stop. stop ≡ is) → answer ≡ Err is
@@ -131,12 +131,8 @@ Quiet answer old new = IsOk answer → (new.shelf.faults ≡ old.shelf.faults) �
 -- a put, after calls that changed no file and read nothing from the source
 module _ (due : Outcome) (old new : World) (files : new.shelf.told ≡ old.shelf.told) (source : new.input.told ≡ old.input.told)
     (alone : due.session ≡ None) where
-  unmade : due.writes ≡ [] → MadeAll due.writes old.shelf.told new.shelf.told
-  unmade none = subst (λ (writes : Writes). MadeAll writes old.shelf.told new.shelf.told) (sym none)
-      (stays_all old.shelf.told new.shelf.told files)
-
-  stand : due.writes ≡ [] → StandAll due.writes old.shelf new.shelf
-  stand none = record { made = unmade none; whole = λ some. absurd (some none) }
+  safe : due.writes ≡ [] → StandSafe due.writes old.shelf new.shelf
+  safe none = subst (λ (writes : Writes). StandSafe writes old.shelf new.shelf) (sym none) (unmade_safe old.shelf new.shelf files)
 
   unread : (Ends : Result ℕ ServeError → Type 0) → SourceRead due.session Ends old new
   unread Ends = subst (λ (session : Option (List ℕ)). SourceRead session Ends old new) (sym alone) source
@@ -146,8 +142,8 @@ module _ (due : Outcome) (old new : World) (files : new.shelf.told ≡ old.shelf
   put_step (Ok _) put quiet = record {
     answers = (ap (λ o. o.status) put.answers, ap (λ o. o.line) put.answers);
     output = put.output;
-    files = stand (ap (λ o. o.writes) put.answers);
-    files_first = inl (stand (ap (λ o. o.writes) put.answers));
+    files = safe (ap (λ o. o.writes) put.answers);
+    files_first = inl (safe (ap (λ o. o.writes) put.answers));
     source = unread _;
     outside = λ failed. cc;
     none_rose = λ ok. let both = quiet ok in record { shelf = both.0; input = both.1; out = put.kept ok };
@@ -155,8 +151,8 @@ module _ (due : Outcome) (old new : World) (files : new.shelf.told ≡ old.shelf
   put_step (Err (stop.Complaint given)) put quiet = record {
     answers = (ap (λ o. o.status) put.answers, ap (λ o. o.line) put.answers);
     output = put.output;
-    files = stand (ap (λ o. o.writes) put.answers);
-    files_first = inl (stand (ap (λ o. o.writes) put.answers));
+    files = (safe (ap (λ o. o.writes) put.answers)).stand;
+    files_first = inl (safe (ap (λ o. o.writes) put.answers));
     source = unread _;
     outside = λ failed. cc;
     none_rose = λ ok. cc;
@@ -165,7 +161,7 @@ module _ (due : Outcome) (old new : World) (files : new.shelf.told ≡ old.shelf
     answers = tt;
     output = put.output;
     files = stays_part due.writes old.shelf.told new.shelf.told files;
-    files_first = inl (stand (ap (λ o. o.writes) put.answers));
+    files_first = inl (safe (ap (λ o. o.writes) put.answers));
     source = unread _;
     outside = λ failed. output_failed early due old new put.answers (put.outside failed);
     none_rose = λ ok. cc;
@@ -174,7 +170,7 @@ module _ (due : Outcome) (old new : World) (files : new.shelf.told ≡ old.shelf
     answers = tt;
     output = put.output;
     files = stays_part due.writes old.shelf.told new.shelf.told files;
-    files_first = elim (put.memory refl) [ inl is ↦ inl (stand (ap (λ o. o.writes) is)) | inr unput ↦ inr unput ];
+    files_first = elim (put.memory refl) [ inl is ↦ inl (safe (ap (λ o. o.writes) is)) | inr unput ↦ inr unput ];
     source = unread _;
     outside = λ failed. cc;
     none_rose = λ ok. cc;
@@ -186,12 +182,12 @@ never_done given text is = complains_undone given (ap (λ o. o.status) is)
 
 -- all files were made, and then the text was put
 pub made_put : {early : Early} (writes : Writes) (text : List ℕ) (answer : Result (Unit {0}) Stop) (old new : World)
-    → StandAll writes old.shelf new.shelf → new.shelf.faults ≡ old.shelf.faults → new.input ≡ old.input
+    → StandSafe writes old.shelf new.shelf → new.shelf.faults ≡ old.shelf.faults → new.input ≡ old.input
     → PutDoes (done text) answer old.out new.out → StepDoes early (made_and_put writes text) answer old new
-made_put {early} writes text answer old new all kept input put = go answer put
+made_put {early} writes text answer old new safe kept input put = go answer put
   where
     part : MadePart writes old.shelf.told new.shelf.told
-    part = part_of_all writes old.shelf.told new.shelf.told all.made
+    part = part_of_all writes old.shelf.told new.shelf.told safe.stand.made
 
     source : new.input.told ≡ old.input.told
     source = ap (λ (s : Seen (List ℕ)). s.told) input
@@ -201,8 +197,8 @@ made_put {early} writes text answer old new all kept input put = go answer put
     go (Ok _) put = record {
       answers = (refl, refl);
       output = put.output;
-      files = all;
-      files_first = inl all;
+      files = safe;
+      files_first = inl safe;
       source = source;
       outside = λ failed. cc;
       none_rose = λ ok. record { shelf = kept; input = ap (λ (s : Seen (List ℕ)). s.faults) input; out = put.kept ok };
@@ -212,7 +208,7 @@ made_put {early} writes text answer old new all kept input put = go answer put
       answers = tt;
       output = put.output;
       files = part;
-      files_first = inl all;
+      files_first = inl safe;
       source = source;
       outside = λ failed. inr (put.outside failed);
       none_rose = λ ok. cc;
@@ -221,7 +217,7 @@ made_put {early} writes text answer old new all kept input put = go answer put
       answers = tt;
       output = put.output;
       files = part;
-      files_first = inl all;
+      files_first = inl safe;
       source = source;
       outside = λ failed. cc;
       none_rose = λ ok. cc;
@@ -340,15 +336,18 @@ module _ (shelf : ShelfSeen) (now new : World) where
     whole = all.whole;
   }
 
+  safe_behind : (writes : Writes) → now.shelf.told ≡ shelf.told → StandSafe writes now.shelf new.shelf → StandSafe writes shelf new.shelf
+  safe_behind writes same safe = record { stand = stand_behind writes same safe.stand; durable = safe.durable }
+
   made_behind : (writes : Writes) (answer : Result (Unit {0}) Stop) → now.shelf.told ≡ shelf.told
       → FilesMade answer writes now.shelf new.shelf → FilesMade answer writes shelf new.shelf
-  made_behind writes (Ok _) same made = stand_behind writes same made
+  made_behind writes (Ok _) same made = safe_behind writes same made
   made_behind writes (Err (stop.Complaint given)) same made = stand_behind writes same made
   made_behind writes (Err stop.Outside) same made = subst (λ (told : Option Files). MadePart writes told new.shelf.told) same made
   made_behind writes (Err stop.Memory) same made = subst (λ (told : Option Files). MadePart writes told new.shelf.told) same made
 
   first_behind : (writes : Writes) → now.shelf.told ≡ shelf.told → FilesFirst writes now new → FilesFirst writes old new
-  first_behind writes same (inl all) = inl (stand_behind writes same all)
+  first_behind writes same (inl safe) = inl (safe_behind writes same safe)
   first_behind writes same (inr unput) = inr unput
 
   pub step_behind : (early : Early) (due : Outcome) (answer : Result (Unit {0}) Stop) → now.shelf.told ≡ shelf.told → now.shelf.faults

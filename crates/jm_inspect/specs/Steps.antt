@@ -52,10 +52,15 @@ pub record StandAll (writes : Writes) (old new : ShelfSeen) : Type 0 where
   pub made : MadeAll writes old.told new.told
   pub whole : writes ≢ [] → IsTrue new.whole
 
--- the files are made and stand; but some of them are made where the outside failed or no memory was
--- found
+-- all files were made and stand, and where there are any, the making of files was ended after them
+pub record StandSafe (writes : Writes) (old new : ShelfSeen) : Type 0 where
+  pub stand : StandAll writes old new
+  pub durable : writes ≢ [] → IsTrue new.durable
+
+-- the files are made and stand, and making them was ended, unless a complaint ends the work; but
+-- some of them are made where the outside failed or no memory was found
 abbrev pub FilesMade : Result (Unit {0}) Stop → Writes → (old new : ShelfSeen) → Type 0
-FilesMade (Ok _) writes old new = StandAll writes old new
+FilesMade (Ok _) writes old new = StandSafe writes old new
 FilesMade (Err (stop.Complaint complaint)) writes old new = StandAll writes old new
 FilesMade (Err stop.Outside) writes old new = MadePart writes old.told new.told
 FilesMade (Err stop.Memory) writes old new = MadePart writes old.told new.told
@@ -67,11 +72,10 @@ IsFailure (Err (stop.Complaint complaint)) = ⊥
 IsFailure (Err stop.Outside) = Unit {0}
 IsFailure (Err stop.Memory) = Unit {0}
 
--- the output is put after all files were made: they stand whole, under their own names, or nothing
--- was put
+-- the output is put after all files were made and making them was ended, or nothing was put
 abbrev pub FilesFirst : Writes → World → World → Type 0
 FilesFirst writes old new =
-    StandAll writes old.shelf new.shelf ⊎ (new.out.told ≡ old.out.told)
+    StandSafe writes old.shelf new.shelf ⊎ (new.out.told ≡ old.out.told)
 
 -- what any step does, where this is what the command comes to
 pub record StepDoes (early : Early) (due : Outcome) (answer : Result (Unit {0}) Stop)

@@ -48,6 +48,7 @@ fn extract_counted<S: Shelf, R: Ledger>(
     ensures takes { TakesOfFront image.now.front (λ b. taken_size b work.entry.include.now)
         (S.handed shelf.old) (S.handed shelf.new) }
     ensures whole { OnOk result (IsTrue (S.whole shelf.new)) }
+    ensures durable { OnOk result (IsTrue (S.durable shelf.new)) }
     ensures faults { CountsFaults (S.faults shelf.old) (S.faults shelf.new) (IsOk result)
         (IsErrOf result ExtractStop.Outside) }
 {

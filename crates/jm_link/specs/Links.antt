@@ -46,11 +46,12 @@ ComesTo told directories asked result =
 
 -- what a link did, where its result is one of these
 
--- the file at a path is these bytes and stands whole under its own name, all others are as before,
--- and no call failed
+-- the file at a path is these bytes and stands whole under its own name, the making of files was
+-- ended after it, all others are as before, and no call failed
 pub record StandsAt (path bytes : List ℕ) (old new : ShelfSeen) : Type 0 where
   pub holds : Holds old.told path bytes new.told
   pub whole : IsTrue new.whole
+  pub durable : IsTrue new.durable
   pub kept : new.faults ≡ old.faults
 
 -- it failed: before it wrote, or with a front of its image written, which may be all of it

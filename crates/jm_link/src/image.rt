@@ -33,6 +33,7 @@ fn write_whole<S: Shelf>(
     ensures err { OnErr result ((image : List ℕ) × (layout draft.now.order pool.now ≡ Some image)
         × HoldsPart (S.files shelf.old) path.now image (S.files shelf.new)) }
     ensures whole { OnOk result (IsTrue (S.whole shelf.new)) }
+    ensures durable { OnOk result (IsTrue (S.durable shelf.new)) }
     ensures handed { S.handed shelf.new ≡ S.handed shelf.old }
     ensures faults { CountsFaults (S.faults shelf.old) (S.faults shelf.new) (IsOk result)
         (IsErrOf result ShelfError.Failed) }

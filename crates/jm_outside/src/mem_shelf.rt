@@ -131,8 +131,10 @@ impl Shelf for MemShelf {
 
     ghost faults = { λ shelf. (calls_of shelf).faults };
 
-    // A file in memory has its own name from the start.
+    // A file in memory has its own name from the start, and no disk.
     ghost whole = { λ _. true };
+
+    ghost durable = { λ _. true };
 
     ghost handed = { λ shelf. handed_by shelf };
 

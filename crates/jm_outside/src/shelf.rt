@@ -79,6 +79,10 @@ pub trait Shelf {
     // Whether each file that was made stands whole under its own name.
     ghost whole: { Self → Bool };
 
+    // Whether the making of files was ended after the last file: what that leaves on a disk is the
+    // shelf's own to say.
+    ghost durable: { Self → Bool };
+
     // How many bytes of files the shelf handed out, told or not.
     ghost handed: { Self → ℕ };
 
@@ -194,10 +198,12 @@ pub trait Shelf {
         ensures faults { CountsFaults (faults self.old) (faults self.new) (IsOk result)
             (IsErrOf result ShelfError.Failed) };
 
-    /// Ends the making of files: what was made stands under its own name. All files stay.
+    /// Ends the making of files: what was made stands under its own name, and the file that was made
+    /// last is on the disk, where the shelf has one. All files stay.
     fn finish(&mut self, alloc: Global) -> Result<(), ShelfError>
         ensures files { files self.new ≡ files self.old }
         ensures whole { OnOk result (IsTrue (whole self.new)) }
+        ensures durable { OnOk result (IsTrue (durable self.new)) }
         ensures handed { handed self.new ≡ handed self.old }
         ensures faults { CountsFaults (faults self.old) (faults self.new) (IsOk result)
             (IsErrOf result ShelfError.Failed) };

@@ -1,4 +1,6 @@
-ghost use Rattle.std.specs.Prelude.{◌≡◌, None};
+ghost use Rattle.std.specs.Prelude.{◌≡◌, ◌≤◌, None, OnOk, IfOk, IsOk, IsErr, IsErrOf, length};
+ghost use Rattle.std.specs.Io.KnownBytes.{Appends, ReadConsumes};
+ghost use Rattle.jm_outside.specs.Outcome.{CountsFaults};
 
 use crate::streams::{Failed, Sink, SinkError, Source};
 use crate::system_error::SystemError;
@@ -48,7 +50,14 @@ impl<R: Read + Drop> Source for StdSource<R> {
 
     ghost faults = { λ source. source.faults };
 
-    fn take(&mut self, into: &mut [u8]) -> Result<usize, Failed> {
+    /// What it gives is the front of what the stream has to give, and 0 is the stream's end, as far
+    /// as the stream's own contract tells.
+    fn take(&mut self, into: &mut [u8]) -> Result<usize, Failed>
+        ensures within { IfOk result (λ n. n ≤ length into.old) }
+        ensures bytes { ReadConsumes (R.remaining self.old.input) (R.remaining self.new.input)
+            result into.new }
+        ensures faults { CountsFaults self.old.faults self.new.faults (IsOk result) (IsErr result) }
+    {
         for _ in 0..u64::MAX {
             match self.input.read(into) {
                 Ok(count) => return Ok(count),
@@ -87,7 +96,13 @@ impl<W: Write + Drop> Sink for StdSink<W> {
 
     ghost faults = { λ sink. sink.faults };
 
-    fn put(&mut self, _alloc: Global, bytes: &[u8]) -> Result<(), SinkError> {
+    /// All bytes are added to what the stream has, as far as the stream's own contract tells.
+    fn put(&mut self, _alloc: Global, bytes: &[u8]) -> Result<(), SinkError>
+        ensures bytes { OnOk result
+            (Appends (W.contents self.old.output) (W.contents self.new.output) bytes.now) }
+        ensures faults { CountsFaults self.old.faults self.new.faults (IsOk result)
+            (IsErrOf result SinkError.Failed) }
+    {
         let answer = match self.output.write_all(bytes) {
             Ok(()) => self.output.flush(),
             Err(e) => Err(e),

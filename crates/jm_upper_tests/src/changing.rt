@@ -59,6 +59,8 @@ impl Shelf for Changing {
 
     ghost whole = { λ _. true };
 
+    ghost durable = { λ _. true };
+
     ghost handed = { λ a. handed_by a.shelf };
 
     fn names(&mut self, alloc: Global, dir: &[u8]) -> Result<List<Text>, ShelfError> {

@@ -209,7 +209,8 @@ fn open_now<R: Files<File = File> + AllocGlobal>(
 
 /// What that file has; then, when it got shorter, whether a part fails that its length promised,
 /// and what it has by its new length; what it has when another file has its name and a third one
-/// was made; and, when the third one's length was asked, whether the other file is refused.
+/// was made; and, when a part of the third one and the length of a fourth one were asked, whether
+/// the other file is refused.
 fn kept_open<R: Files<File = File> + AllocGlobal>(rt: &R) -> Result<String, Fail> {
     let alloc = rt.alloc();
     let mut shelf = FileShelf::new(rt);
@@ -224,9 +225,38 @@ fn kept_open<R: Files<File = File> + AllocGlobal>(rt: &R) -> Result<String, Fail
     shelf.append(alloc, b"third", b"3")?;
     shelf.finish(alloc)?;
     let same = open_now(alloc, &mut shelf)?;
-    shelf.length(alloc, b"third")?;
+    shelf.read_part(alloc, b"third", 0, 0)?;
+    shelf.length(alloc, b"new")?;
     let is_refused = shelf.length(alloc, b"open").is_err();
     Ok(format!(in alloc; "{whole}, {is_lost}, {shorter}, {same}, {is_refused}")?)
+}
+
+/// Whether a new folder is there when a file of it was made and a part of one that was open before
+/// is read; when another file of it was made, and was asked for. Of another new folder with two
+/// files, whether it is there when the making of files ended, and the bytes of the first file. Of a
+/// third one, whether it stands beside its place, and whether it is left when it was given up.
+fn made_together<R: Files<File = File> + AllocGlobal>(rt: &R) -> Result<String, Fail> {
+    let alloc = rt.alloc();
+    let mut shelf = FileShelf::new(rt);
+    shelf.length(alloc, b"new")?;
+    shelf.create(alloc, b"one/a/x")?;
+    shelf.append(alloc, b"one/a/x", b"1")?;
+    shelf.read_part(alloc, b"new", 0, 1)?;
+    let is_early = fs::exists(rt, "one")?;
+    shelf.create(alloc, b"one/y")?;
+    shelf.length(alloc, b"one/y")?;
+    let is_asked = fs::exists(rt, "one")?;
+    shelf.create(alloc, b"two/x")?;
+    shelf.append(alloc, b"two/x", b"2")?;
+    shelf.create(alloc, b"two/y")?;
+    shelf.finish(alloc)?;
+    let is_there = fs::exists(rt, "two/y")?;
+    let first = fs::read_to_string(rt, "two/x")?;
+    shelf.create(alloc, b"three/x")?;
+    let is_beside = fs::exists(rt, "three.jm_tool-0/x")?;
+    shelf.give_up();
+    let is_left = fs::exists(rt, "three")? || fs::exists(rt, "three.jm_tool-0")?;
+    Ok(format!(in alloc; "{is_early} {is_asked} {is_there} {first} {is_beside} {is_left}")?)
 }
 
 #[test]
@@ -245,6 +275,10 @@ fn the_system_keeps_files(rt: HostRuntime) -> Result<(), Fail> {
     }
     assert_eq!(rt; given_up(&rt)?.as_str(), "55555 false 333 false false 1");
     assert_eq!(rt; kept_open(&rt)?.as_str(), "6 bcd, true, 2 b, 2 b, true");
+    assert_eq!(rt;
+        made_together(&rt)?.as_str(),
+        "false true true 2 true false"
+    );
     let mut sink = StdSink::new(fs::create(&rt, "stream")?);
     assert_eq!(rt; put_marks(rt.alloc(), &mut sink)?.as_str(), "...");
     let mut source = StdSource::new(fs::open(&rt, "stream")?);

@@ -27,5 +27,5 @@ returns-clause-comes g c source =
     let old = world (shelf_at g.S.Shelf c.args.shelf.now) source (sink_at g.O.Sink c.args.out.now) in
     let new = world (shelf_at g.S.Shelf c.extract_counted.new.shelf) source (sink_at g.O.Sink c.put_count.new.out) in
     extract_does dir include _ c.args.image.now.front c.put_count.result old new c.requires.there
-    (λ b filed. extract_put dir (extracted b include) old new refl _ c.put_count.result (did.extracts b filed) did.whole
+    (λ b filed. extract_put dir (extracted b include) old new refl _ c.put_count.result (did.extracts b filed) did.whole did.durable
     (did.faults.kept refl) c.put_count.ensures)
