@@ -69,6 +69,7 @@ own() {
   mkdir l/a/p/y.jm_tool-0
   fails_at 'an unfinished folder below a module' l \
     'l/a/p/y.jm_tool-0: an unfinished file of a run that was stopped'
+  rm -rf l
 }
 
 # Runs a link to $1 as the user and the groups of the words $2.. of setpriv.
@@ -123,6 +124,7 @@ a file of others alone|1001 2001 660|--reuid=1002 --regid=2002 --clear-groups
 ROWS
     rm -rf shared
   fi
+  access_lists
   cp "$(command -v sleep)" program && chmod 755 program
   ./program 5 &
   how=$!
@@ -138,10 +140,44 @@ ROWS
   done
 }
 
+# Of a file with an access list the new one has the mask as its group's permissions, and no list: nobody
+# of it, and nobody else, can read what the permissions don't let him.
+access_lists() {
+  local who
+  if ! command -v setfacl >/dev/null; then
+    leave_out "there is no setfacl"
+    return
+  fi
+  rm -rf shared
+  mkdir -m 777 shared
+  cp old shared/x
+  chmod 600 shared/x
+  if ! setfacl -m u:1003:rw shared/x 2>/dev/null; then
+    leave_out "this disk has no access lists"
+    return
+  fi
+  is "a file with a list has the permissions $(stat -c %a shared/x)" \
+    [ "$(stat -c %a shared/x)" = 660 ]
+  link_to shared/x >out 2>err
+  is "a file with a list isn't replaced: $(cat err)" same shared/x new
+  is "the list of a file is carried over" [ -z "$(getfacl -cps shared/x)" ]
+  is "without its list a file has the permissions $(stat -c %a shared/x)" \
+    [ "$(stat -c %a shared/x)" = 660 ]
+  if [ "$(id -u)" = 0 ] && setpriv --reuid=1003 --clear-groups true 2>/dev/null; then
+    for who in 1003 1004; do
+      ! setpriv --reuid="$who" --regid="$who" --clear-groups cat shared/x >out 2>err
+      judge $? "the user $who reads a file whose list is gone"
+    done
+  fi
+  setfacl -m u:1003:rw,g::--- shared/x
+  is "a list can't be given again" [ -n "$(getfacl -cps shared/x)" ]
+  rm -rf shared
+}
+
 # A way through a folder that isn't there yet comes to what stands at its end.
 through_new() {
   local no='neither a file nor a link to one'
-  rm -rf no nope target way pipe
+  rm -rf no nope nope2 target through way pipe
   mkfifo pipe
   refuses no/../pipe "$no"
   is "a pipe is replaced" test -p pipe
@@ -168,11 +204,10 @@ through_new() {
   is "an extraction through a new folder replaces a pipe" test -p target/a/p/A.class
   "$tool" extract new --dir nope2/../through >out 2>err
   is "an extraction by way of a new folder isn't as due: $(cat err)" diff -rq through whole
-  rm -rf no nope nope2 target fresh way pipe
+  rm -rf no nope nope2 target through way pipe
 }
 
-# What is below a folder that wasn't there appears at once, after the calls $1 of the system that the
-# words $2.. make, in order.
+# What is below a folder that wasn't there appears at once, or not at all.
 folder() {
   local name number kept=0 made=0 other=0
   has_strace || return
@@ -356,29 +391,70 @@ layers() {
   umount upper && mounted=
 }
 
+# A disk that makes a file and then fails to open it, as some do: a library in front of the C library
+# does so.
+half_opened() {
+  local to
+  if ! command -v cc >/dev/null; then
+    leave_out "there is no compiler of C"
+    return
+  fi
+  cat >half.c <<'C'
+#define _GNU_SOURCE
+#include <errno.h>
+#include <fcntl.h>
+#include <stdarg.h>
+#include <sys/syscall.h>
+#include <unistd.h>
+int open(const char *path, int flags, ...) {
+  va_list rest;
+  va_start(rest, flags);
+  int mode = flags & O_CREAT ? va_arg(rest, int) : 0;
+  va_end(rest);
+  int file = syscall(SYS_openat, AT_FDCWD, path, flags, mode);
+  if (file < 0 || !(flags & O_CREAT)) return file;
+  close(file);
+  errno = EIO;
+  return -1;
+}
+C
+  cc -shared -fPIC -o half.so half.c || { leave_out "the compiler of C fails"; return; }
+  again
+  rm -rf y fresh
+  for to in x y fresh/y; do
+    fails "$to: error 5 of the system" env LD_PRELOAD="$room/half.so" \
+      "$tool" link --module-path mods --add-modules a --output "$to"
+  done
+  is "a file that can't be opened replaces another one" same x old
+  is "a file that can't be opened is left" none y
+  is "a folder whose file can't be opened is left" none fresh
+  is "a file that can't be opened leaves an unfinished one" tidy .
+}
+
 # Where no memory is found by the system, that is status 7 and nothing else.
 no_memory() {
   local name number bad=0 runs=0
   has_strace || return
-  rm -rf z
-  calls "$tool" link --module-path mods --add-modules a --output z/y >list
+  rm -rf short
+  mkdir short
+  calls "$tool" link --module-path mods --add-modules a --output short/z/y >list
   while read -r name number; do
     case $name in
       statx | openat | mkdir | read | getdents64 | write | rename | fsync) ;;
       *) continue ;;
     esac
-    rm -rf z z.jm_tool-*
+    rm -rf short/z
     { strace -qq -o trace -e "inject=$name:error=ENOMEM:when=$number" \
-      "$tool" link --module-path mods --add-modules a --output z/y >out; } 2>err
+      "$tool" link --module-path mods --add-modules a --output short/z/y >out; } 2>err
     status=$?
     runs=$((runs + 1))
     case $status in
-      0) same z/y new && continue ;;
-      7) [ "$(cat err)" = 'out of memory' ] && tidy . && continue ;;
+      0) same short/z/y new && continue ;;
+      7) [ "$(cat err)" = 'out of memory' ] && tidy short && continue ;;
     esac
     bad=$((bad + 1))
     [ "$bad" -gt 5 ] || echo "disks: $name $number ENOMEM: status $status, $(cat err)"
   done <list
   is "of $runs calls that find no memory $bad end otherwise" [ "$bad" = 0 ]
-  rm -rf z
+  rm -rf short
 }

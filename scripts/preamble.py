@@ -1,5 +1,6 @@
 """What the scripts in Python share that try the program: a line that begins with the script's name, tests that
 are counted, the JDK beside `java`, and the built program."""
+import os
 import pathlib
 import shutil
 import subprocess
@@ -46,3 +47,13 @@ def jdk(words):
 def is_built():
     """Whether there is a program; it is proved and built first, where that isn't done yet."""
     return subprocess.run([SCRIPTS / "jm_tool", "--version"], stdout=subprocess.DEVNULL).returncode == 0
+
+
+def find_program(path=None):
+    """The program at this path, or without it `$JM_TOOL`, or the built one, which is proved and built first where that
+    isn't done yet; ends with status 1 where that fails."""
+    path = path or os.environ.get("JM_TOOL")
+    if not path and not is_built():
+        say("the program isn't built")
+        sys.exit(1)
+    return pathlib.Path(path or BUILT).resolve()
