@@ -136,6 +136,12 @@ says_of() {
 }
 # A signal that ends a link leaves what it made beside its place, which stands in no other's way.
 ended_by() {
+  local ignored
+  ignored=$(awk '/^SigIgn/ { print $2 }' /proc/$$/status)
+  if [ $((0x$ignored >> ($(kill -l "$1") - 1) & 1)) = 1 ]; then
+    leave_out "$1 is ignored here"
+    return
+  fi
   rm -f y y.jm_tool-*
   { strace -qq -o trace -e "inject=fsync:signal=$1" \
     "$tool" link --module-path mods --add-modules a --output y >out; } 2>err
@@ -209,6 +215,7 @@ link_calls() {
   killed_at_calls old
   killed_at_calls ''
   removed_meanwhile
+  rm -rf was due image z
 }
 # The calls of what makes more files than one.
 folder_calls() {
@@ -222,6 +229,7 @@ folder_calls() {
   injected 'extract' nothing whole "$tool" extract new --dir z
   injected 'extract over files' other whole "$tool" extract new --dir z
   injected 'gen' nothing made "$tool" gen z --modules 1 --classes 2 --seed 1
+  rm -rf made other z z.jm_tool-*
 }
 # What may not take its name is told, and removed; what was there stays.
 unnamed() {
