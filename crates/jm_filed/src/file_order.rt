@@ -1,11 +1,11 @@
 //! The order in which the contents of an image stand in its file.
-ghost use Rattle.std.specs.Prelude.{◌≡◌, ◌++◌, ℕ, List, IfOk, OnOk, map};
+ghost use Rattle.std.specs.Prelude.{◌≡◌, ◌≢◌, ◌++◌, ℕ, List, AllPairs, IfOk, OnOk, map};
 ghost use Rattle.jm_form.specs.Head.{IsFileOf};
 ghost use Rattle.jm_form.specs.Trees.{module_of, path_of};
 ghost use Rattle.jm_reader.specs.Listing.{handed};
 ghost use Rattle.jm_reader.specs.Walk.{IsLater, entries_of};
-ghost use Rattle.jm_filed.specs.FileOrder.{file_cmp, file_order, name_cmp, placed_alone};
-ghost use Rattle.jm_filed.specs.FileOrder.{placed_among};
+ghost use Rattle.jm_filed.specs.FileOrder.{file_cmp, file_order, in_file_order, name_cmp};
+ghost use Rattle.jm_filed.specs.FileOrder.{placed_alone, placed_among};
 
 use jm_bytes::{List, Meter, NoMemory, Text};
 use jm_names::cut_at_first;
@@ -105,9 +105,19 @@ fn names_alone(alloc: Global, placed: Vec<PlacedName>) -> Result<List<Text>, NoM
     Ok(names)
 }
 
-/// The names of the resources of an image in the order of their contents: by their place, at one
-/// place the empty ones first, then by module, then by path. The index says all of it, and no
-/// content is read. Time n log n in the entries.
+/// The names of some resources in the order of their contents: by their place, at one place the
+/// empty ones first, then by module, then by path. The names differ. Time n log n.
+pub fn names_by_place(alloc: Global, placed: List<PlacedName>) -> Result<List<Text>, NoMemory>
+    ensures { AllPairs (λ p q. p.name ≢ q.name) placed
+        → IfOk result (λ names. names ≡ map (λ p. p.name) (in_file_order placed)) }
+{
+    let mut sorted = placed.into_vec();
+    sorted.sort_unstable_by(|one, other| order_of_places(one, other));
+    names_alone(alloc, sorted)
+}
+
+/// The names of the resources of an image in the order of their contents, as `names_by_place` has
+/// it. The index says all of it, and no content is read.
 pub fn names_in_file_order<R: Ledger>(
     alloc: Global,
     index: &Index,
@@ -118,7 +128,6 @@ pub fn names_in_file_order<R: Ledger>(
         → IfOk result (λ names. names ≡ file_order b) }
     ensures reads { IsLater reads.old reads.new }
 {
-    let mut placed = placed_names(alloc, index, reads)?.into_vec();
-    placed.sort_unstable_by(|one, other| order_of_places(one, other));
-    names_alone(alloc, placed)
+    let placed = placed_names(alloc, index, reads)?;
+    names_by_place(alloc, placed)
 }

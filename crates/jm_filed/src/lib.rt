@@ -10,7 +10,7 @@ mod taken_name;
 mod taking;
 
 pub use extent::Extent;
-pub use file_order::names_in_file_order;
+pub use file_order::{PlacedName, names_by_place, names_in_file_order};
 pub use filed_image::FiledImage;
 pub use reading::read_extent;
 pub use taken_name::TakenName;
