@@ -40,6 +40,7 @@ use Rattle.jm_modpath.proofs.StepLaws.{from_unhidden}
 use Rattle.jm_form.proofs.RisingLaws.{contains_rising}
 use Rattle.jm_names.specs.Names.{is_node, is_slash}
 use Rattle.jm_names.specs.UtfForms.{four_number, is_four, modified, pair_bytes}
+use Rattle.jm_names.proofs.UtfLaws.{pair_bytes-high}
 use Rattle.jm_outside.specs.Files.{Files, names_below}
 use Rattle.jm_class.proofs.ReadingLaws.{IsBytes}
 use Rattle.jm_reader.specs.Walk.{entries_with}
@@ -93,7 +94,8 @@ modified_back (a ∷ x ∷ y ∷ z ∷ text) form low is = go (is_four a x y z) 
         → cond b (pair_bytes (four_number a x y z) ++ modified text) (a ∷ modified (x ∷ y ∷ z ∷ text)) ≡ form
         → ((rest : List ℕ) → list_all (λ b. nat_lt b 128) rest ≡ true → modified (x ∷ y ∷ z ∷ text) ≡ rest → x ∷ y ∷ z ∷ text
         ≡ rest) → a ∷ x ∷ y ∷ z ∷ text ≡ form
-    go true four form low is back = absurd (false≢true (ap (list_all (λ b. nat_lt b 128)) is ∙ low))
+    go true four form low is back = absurd (false≢true (sym (pair_bytes-high (four_number a x y z) (modified text))
+        ∙ ap (list_all (λ b. nat_lt b 128)) is ∙ low))
     go false four [] low is back = cc
     go false four (c ∷ form) low is back =
         let head : a ≡ c = cc in

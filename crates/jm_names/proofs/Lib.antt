@@ -10,5 +10,6 @@ mod OrderVectors
 pub mod ShownLaws
 pub mod UtfLaws
 pub mod UtfPlain
+pub mod UtfRule
 pub mod UtfSteps
 pub mod Vectors

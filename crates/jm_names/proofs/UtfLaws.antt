@@ -8,7 +8,7 @@ use Rattle.std.specs.List.{list_all, concat}
 use Rattle.std.proofs.lemmas.Bool.{false≢true, cases_Bool, eqb-true, leb-true, and_parts, ltb-true, ltb-false}
 use Rattle.std.proofs.lemmas.Bool.Decides.{nat_tests}
 use Rattle.jm_names.specs.Characters.{from_to, goes_on, is_surrogate, is_character, IsText}
-use Rattle.jm_names.specs.UtfForms.{is_four, four_number, four_bytes, is_pair, pair_number, pair_bytes, modified, utf}
+use Rattle.jm_names.specs.UtfForms.{is_four, four_number, four_bytes, is_pair, pair_number, pair_bytes, IsAbove, modified, utf}
 
 -- a byte that begins no character of four bytes stays
 pub modified-byte : (a : ℕ) (text : List ℕ) → a < 0xF0 → modified (a ∷ text) ≡ a ∷ modified text
@@ -41,7 +41,7 @@ four_number-bytes : (c : ℕ) → c < 0x110000 → four_number (0xF0 + c / 0x400
     (0x80 + c % 64) ≡ c
 four_number-bytes c h = omega arith
 
-is_four-bytes : (c : ℕ) → 0x10000 ≤ c → c < 0x110000 → is_four (0xF0 + c / 0x40000) (0x80 + c / 0x1000 % 64) (0x80 + c / 64 % 64)
+pub is_four-bytes : (c : ℕ) → 0x10000 ≤ c → c < 0x110000 → is_four (0xF0 + c / 0x40000) (0x80 + c / 0x1000 % 64) (0x80 + c / 64 % 64)
     (0x80 + c % 64) ≡ true
 is_four-bytes c l h = grind (arith, nat_tests)
 
@@ -75,8 +75,28 @@ surrogate_parts low high a x y h =
       goes_on_below = leb-true y 0xBF third.1;
     }
 
+-- the six bytes of a pair, from the bits of the number less 0x10000
+abbrev surrogates : ℕ → List ℕ
+surrogates u = 0xED ∷ (0xA0 + u / 0x10000) ∷ (0x80 + u / 0x400 % 64) ∷ 0xED ∷ (0xB0 + u / 64 % 16) ∷ (0x80 + u % 64) ∷ []
+
+pair_bytes-bits : (c : ℕ) → 0x10000 ≤ c → c < 0x110000 → pair_bytes c ≡ surrogates (c - 0x10000)
+pair_bytes-bits c l h =
+    let first : 0xE0 + (0xD800 + (c - 0x10000) / 0x400) / 0x1000 ≡ 0xED = omega arith in
+    let second : 0x80 + (0xD800 + (c - 0x10000) / 0x400) / 64 % 64 ≡ 0xA0 + (c - 0x10000) / 0x10000 = omega arith in
+    let third : 0x80 + (0xD800 + (c - 0x10000) / 0x400) % 64 ≡ 0x80 + (c - 0x10000) / 0x400 % 64 = omega arith in
+    let fourth : 0xE0 + (0xDC00 + (c - 0x10000) % 0x400) / 0x1000 ≡ 0xED = omega arith in
+    let fifth : 0x80 + (0xDC00 + (c - 0x10000) % 0x400) / 64 % 64 ≡ 0xB0 + (c - 0x10000) / 64 % 16 = omega arith in
+    let sixth : 0x80 + (0xDC00 + (c - 0x10000) % 0x400) % 64 ≡ 0x80 + (c - 0x10000) % 64 = omega arith in
+    rw (first, second, third, fourth, fifth, sixth) refl
+
+-- the first byte of a pair isn't below 128
+pub pair_bytes-high : (c : ℕ) (rest : List ℕ) → list_all (λ b. nat_lt b 128) (pair_bytes c ++ rest) ≡ false
+pair_bytes-high c rest =
+    let first : nat_lt (0xE0 + (0xD800 + (c - 0x10000) / 0x400) / 0x1000) 128 ≡ false = grind (arith, nat_tests) in
+    rw first refl
+
 -- the bytes of a pair are those of its number
-pair_number-read : (a x y b z w : ℕ) → is_pair a x y b z w ≡ true → pair_bytes (pair_number x y z w) ≡ a ∷ x ∷ y ∷ b ∷ z ∷ w ∷ []
+pub pair_number-read : (a x y b z w : ℕ) → is_pair a x y b z w ≡ true → pair_bytes (pair_number x y z w) ≡ a ∷ x ∷ y ∷ b ∷ z ∷ w ∷ []
 pair_number-read a x y b z w h =
     let tests = and_parts (is_surrogate 0xA0 0xAF a x y) (is_surrogate 0xB0 0xBF b z w) h in
     let high = surrogate_parts 0xA0 0xAF a x y tests.0 in
@@ -85,7 +105,7 @@ pair_number-read a x y b z w h =
     let third : 0x80 + (pair_number x y z w - 0x10000) / 0x400 % 64 ≡ y = omega (arith, high.goes_on_above, high.goes_on_below) in
     let fifth : 0xB0 + (pair_number x y z w - 0x10000) / 64 % 16 ≡ z = omega (arith, low.above, low.below) in
     let sixth : 0x80 + (pair_number x y z w - 0x10000) % 64 ≡ w = omega (arith, low.goes_on_above, low.goes_on_below) in
-    rw (second, third, fifth, sixth, high.first, low.first)
+    pair_bytes-bits (pair_number x y z w) (omega arith) (omega arith) ∙ rw (second, third, fifth, sixth, high.first, low.first)
 
 -- a character below U+10000 stays in both forms
 record Stays (bytes rest : List ℕ) : Type 0 where
@@ -119,19 +139,47 @@ stays_three a x y rest h k l e = record {
     ]
 
 -- a character above U+FFFF becomes its pair, and the pair the character
-modified-four : (c : ℕ) (rest : List ℕ) → 0x10000 ≤ c → c < 0x110000 → modified (four_bytes c ++ rest) ≡ pair_bytes c ++ modified rest
+pub modified-four : (c : ℕ) (rest : List ℕ) → 0x10000 ≤ c → c < 0x110000 → modified (four_bytes c ++ rest) ≡ pair_bytes c ++ modified rest
 modified-four c rest l h =
     let test = is_four-bytes c l h in
     let same = four_number-bytes c h in
     rw (test, same)
 
-utf-pair : (c : ℕ) (rest : List ℕ) → 0x10000 ≤ c → c < 0x110000 → utf (pair_bytes c ++ rest) ≡ four_bytes c ++ utf rest
+pub utf-pair : (c : ℕ) (rest : List ℕ) → 0x10000 ≤ c → c < 0x110000 → utf (pair_bytes c ++ rest) ≡ four_bytes c ++ utf rest
 utf-pair c rest l h =
     let below : c - 0x10000 < 0x100000 = omega arith in
     let test = is_pair-bytes (c - 0x10000) below in
     let same : pair_number (0xA0 + (c - 0x10000) / 0x10000) (0x80 + (c - 0x10000) / 0x400 % 64) (0xB0 + (c - 0x10000) / 64 % 16)
     (0x80 + (c - 0x10000) % 64) ≡ c = pair_number-bytes (c - 0x10000) below ∙ omega arith in
-    rw (test, same)
+    let six : utf (surrogates (c - 0x10000) ++ rest) ≡ four_bytes c ++ utf rest = rw (test, same) in
+    ap (λ t. utf (t ++ rest)) (pair_bytes-bits c l h) ∙ six
+
+-- the bytes of a character of four are those of its number
+pub four_number-read : (a x y z : ℕ) → is_four a x y z ≡ true → four_bytes (four_number a x y z) ≡ a ∷ x ∷ y ∷ z ∷ []
+four_number-read a x y z h =
+    let first : 0xF0 + four_number a x y z / 0x40000 ≡ a = grind (arith, nat_tests) in
+    let second : 0x80 + four_number a x y z / 0x1000 % 64 ≡ x = grind (arith, nat_tests) in
+    let third : 0x80 + four_number a x y z / 64 % 64 ≡ y = grind (arith, nat_tests) in
+    let fourth : 0x80 + four_number a x y z % 64 ≡ z = grind (arith, nat_tests) in
+    rw (first, second, third, fourth) refl
+
+pub four_number-above : (a x y z : ℕ) → is_four a x y z ≡ true → IsAbove (four_number a x y z)
+four_number-above a x y z h = (grind (arith, nat_tests), grind (arith, nat_tests))
+
+pub is_pair-in_front : (c a x y b z w : ℕ) (name rest : List ℕ) → IsAbove c
+    → a ∷ x ∷ y ∷ b ∷ z ∷ w ∷ name ≡ pair_bytes c ++ rest → is_pair a x y b z w ≡ true
+is_pair-in_front c a x y b z w name rest range e =
+    let below : c < 0x110000 = omega (arith, range.1) in
+    let bits : a ∷ x ∷ y ∷ b ∷ z ∷ w ∷ name ≡ surrogates (c - 0x10000) ++ rest =
+    e ∙ ap (λ t. t ++ rest) (pair_bytes-bits c range.0 below) in
+    let six = is_pair-bytes (c - 0x10000) (omega (arith, below, range.0)) in
+    let one : a ≡ 0xED = cc in
+    let two : x ≡ 0xA0 + (c - 0x10000) / 0x10000 = cc in
+    let three : y ≡ 0x80 + (c - 0x10000) / 0x400 % 64 = cc in
+    let four : b ≡ 0xED = cc in
+    let five : z ≡ 0xB0 + (c - 0x10000) / 64 % 16 = cc in
+    let last : w ≡ 0x80 + (c - 0x10000) % 64 = cc in
+    rw (one, two, three, four, five, last) six
 
 -- a character of UTF-8, by the number of its bytes
 utf-char : (c : ℕ) (rest : List ℕ) → scalar c ≡ true → utf (modified (encode_utf8 c ++ rest)) ≡ encode_utf8 c ++ utf (modified rest)

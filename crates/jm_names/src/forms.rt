@@ -2,7 +2,7 @@ ghost use Rattle.std.specs.Prelude.{◌≡◌, ◌≤◌, ◌<◌, ◌++◌, len
 ghost use Rattle.std.specs.Str.{IsUtf8};
 ghost use Rattle.jm_names.specs.Characters.{IsText};
 ghost use Rattle.jm_names.specs.UtfForms.{is_four, four_number, four_bytes, pair_number};
-ghost use Rattle.jm_names.specs.UtfForms.{pair_bytes, modified, utf, FirstStays};
+ghost use Rattle.jm_names.specs.UtfForms.{pair_bytes, modified, utf, Rewritten, FirstStays};
 
 use crate::characters::{goes_on, is_surrogate};
 use jm_bytes::{NoMemory, Text};
@@ -12,6 +12,7 @@ use std::alloc::Global;
 /// surrogates of three bytes each, and every other byte stays.
 pub fn to_modified(alloc: Global, text: &[u8]) -> Result<Text, NoMemory>
     ensures modified { IfOk result (λ name. name ≡ modified text.now) }
+    ensures rule { IfOk result (λ name. Rewritten four_bytes pair_bytes text.now name) }
     ensures read_back { IfOk result (λ name. IsUtf8 text.now → utf name ≡ text.now) }
 {
     let mut name = Text::new(alloc);
@@ -35,6 +36,7 @@ pub fn to_modified(alloc: Global, text: &[u8]) -> Result<Text, NoMemory>
 /// four bytes, and every other byte stays.
 pub fn to_utf8(alloc: Global, name: &[u8]) -> Result<Text, NoMemory>
     ensures utf { IfOk result (λ text. text ≡ utf name.now) }
+    ensures rule { IfOk result (λ text. Rewritten pair_bytes four_bytes name.now text) }
     ensures read_back { IfOk result (λ text. IsText name.now → modified text ≡ name.now) }
 {
     let mut text = Text::new(alloc);
