@@ -31,7 +31,7 @@ HasInFront written bytes =
 
 -- the rule of both forms: from left to right each character above U+FFFF that is written in the one
 -- way is written in the other, and a byte where none stands stays
-pub data Rewritten (one other : ℕ → List ℕ) : List ℕ → List ℕ → Type 0 where
+pub data Rewritten (one other : ℕ → List ℕ) : (bytes made : List ℕ) → Type 0 where
   Ended : Rewritten one other [] []
   Character : (c : ℕ) (bytes made : List ℕ) → IsAbove c → Rewritten one other bytes made
       → Rewritten one other (one c ++ bytes) (other c ++ made)
