@@ -4,5 +4,6 @@ pub mod MorePool
 pub mod MoreInfo
 pub mod PackagedLaws
 mod PartLaws
+pub mod SaidLaws
 mod Vectors
 pub mod WholeLaws

@@ -11,7 +11,7 @@ use Rattle.std.proofs.lemmas.Option.{slice_get-get_or}
 use Rattle.std.proofs.Math.Seq.{get_or-append_seam}
 use Rattle.std.specs.List.{cons_option, list_all, list_any}
 use Rattle.std.specs.Prelude.{All, is_some, nat_eq, nat_le, nat_lt, slice_get, option_and_then}
-use Rattle.jm_class.specs.Classes.{SlotData, AttributeData, ClassData, utf8_of, utf8_at, IsPoolFrom, IsAttribute, IsClass}
+use Rattle.jm_class.specs.Classes.{SlotData, AttributeData, ClassData, slot_at, utf8_of, utf8_at, IsPoolFrom, IsAttribute, IsClass}
 use Rattle.jm_modinfo.specs.declared.descriptor.Descriptor.{Descriptor}
 use Rattle.jm_modinfo.specs.ComputedInfo.{info_of}
 use Rattle.jm_modinfo.specs.Descriptors.{bodies, bytes_named, is_named, module_bodies, main_bodies, plain_bytes}
@@ -60,20 +60,22 @@ length-numbers : (number count : ℕ) → length (numbers_text number count) ≡
 length-numbers number zero = refl
 length-numbers number (suc count) = let rest = length-numbers (number + 2) count in omega (arith, rest)
 
+-- a constant that stands after others has the next number
+pub slot_after : (front rest : List SlotData) (slot : SlotData) → slot_at (front ++ slot ∷ rest) (length front + 1) ≡ Some slot
+slot_after front rest slot =
+    let all = front ++ slot ∷ rest in
+    let long = length-append front (slot ∷ rest) in
+    let test : nat_eq (length front + 1) 0 ≡ false = ne_eqb (length front + 1) 0 (λ e. absurd (omega (arith, e))) in
+    let place : length front + 1 - 1 ≡ length front = omega arith in
+    ap (λ b. cond b None (slice_get all (length front + 1 - 1))) test ∙ ap (slice_get all) place
+    ∙ slice_get-get_or all (length front) slot (omega (arith, long))
+    ∙ ap (λ s. Some s) (get_or-append_seam front slot rest slot)
+
 -- the name of the attribute stands after the pool
 pub name_there : (pool : List SlotData) (packages : List (List ℕ)) → utf8_at (pool ++ added_slots (length pool + 1) packages)
     (length pool + 1) ≡ Some attribute_name
 name_there pool packages =
-    let name = utf8 attribute_name in
-    let rest = package_slots (length pool + 1 + 1) packages in
-    let all = pool ++ added_slots (length pool + 1) packages in
-    let long = length-append pool (name ∷ rest) in
-    let test : nat_eq (length pool + 1) 0 ≡ false = ne_eqb (length pool + 1) 0 (λ e. absurd (omega (arith, e))) in
-    let place : length pool + 1 - 1 ≡ length pool = omega arith in
-    ap (λ b. option_and_then utf8_of (cond b None (slice_get all (length pool + 1 - 1)))) test
-    ∙ ap (λ k. option_and_then utf8_of (slice_get all k)) place
-    ∙ ap (option_and_then utf8_of) (slice_get-get_or all (length pool) name (omega (arith, long))
-    ∙ ap (λ s. Some s) (get_or-append_seam pool name rest name))
+    ap (option_and_then utf8_of) (slot_after pool (package_slots (length pool + 1 + 1) packages) (utf8 attribute_name))
 
 attribute_fits : (pool : List SlotData) (packages : List (List ℕ)) → length pool + 1 + 2 * length packages ≤ 65534
     → IsAttribute (pool ++ added_slots (length pool + 1) packages) false (packages_attribute (length pool + 1) packages)
@@ -178,7 +180,7 @@ module _ (packages : List (List ℕ)) (c : ClassData) (is : IsClass c) where
   abbrev own : AttributeData
   own = packages_attribute (length c.pool + 1) packages
 
-  same_bodies : (name : List ℕ) (attributes : List AttributeData) → All (IsAttribute c.pool false) attributes
+  pub same_bodies : (name : List ℕ) (attributes : List AttributeData) → All (IsAttribute c.pool false) attributes
       → bodies (c.pool ++ more) name attributes ≡ bodies c.pool name attributes
   same_bodies name [] all = refl
   same_bodies name (a ∷ attributes) all =

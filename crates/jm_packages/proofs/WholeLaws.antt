@@ -10,8 +10,9 @@ use Rattle.jm_class.proofs.ClassLaws.{reads_once}
 use Rattle.jm_class.proofs.ReleaseLaws.{reads-class_for}
 use Rattle.jm_modinfo.specs.declared.descriptor.Descriptor.{Descriptor}
 use Rattle.jm_modinfo.specs.ComputedInfo.{info_of}
-use Rattle.jm_packages.specs.Packages.{packaged, packages_text, takes_none, ListsFor, Stays}
+use Rattle.jm_packages.specs.Packages.{packaged, packages_text, takes_none, IsListed, ListsFor, Stays}
 use Rattle.jm_packages.proofs.PackagedLaws.{none_stays, packaged-class, packaged-info, packaged-major, packaged_again}
+use Rattle.jm_packages.proofs.SaidLaws.{packaged-said}
 
 module _ (release : ℕ) (packages_of : ClassData → List (List ℕ)) (bytes text : List ℕ) (class : ClassData)
     (of_release : ReadsFor release bytes class) (is : text ≡ packages_text (packages_of class) class) where
@@ -42,6 +43,10 @@ module _ (release : ℕ) (packages_of : ClassData → List (List ℕ)) (bytes te
   packages_say c made d other back says =
       subst (λ k. info_of k ≡ Ok d) (made_is c made other back) (packaged-info (packages_of c) c d other.well_formed says)
 
+  packages_said : (c made : ClassData) → ReadsAs bytes c → ReadsAs text made → IsListed (packages_of c) c made
+  packages_said c made other back =
+      subst (IsListed (packages_of c) c) (made_is c made other back) (packaged-said (packages_of c) c other.well_formed)
+
   listed_again : (made : ClassData) → ReadsAs text made → packages_text (packages_of made) made ≡ text
   listed_again made back =
       ap (λ k. class_text (made_of k)) (sym (made_is class made reads back))
@@ -53,6 +58,7 @@ module _ (release : ℕ) (packages_of : ClassData → List (List ℕ)) (bytes te
     only = packages_only;
     reads = λ c other. record { reads = packages_read c other; major = packages_major c other };
     info = packages_say;
+    said = packages_said;
     again = listed_again;
     no_fault = ap fault_of (reads-class_for release bytes class of_release);
     fault = λ fault e. cc;
@@ -69,6 +75,7 @@ lists_not release packages_of bytes error (Err found) read is = record {
   only = tt;
   reads = tt;
   info = tt;
+  said = tt;
   again = tt;
   no_fault = tt;
   fault = λ fault e. let same : error ≡ Fault fault = cc in read.fault fault (ap (λ x. Err x) same);

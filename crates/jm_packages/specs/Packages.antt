@@ -2,7 +2,7 @@
 -- count, and a Package constant for each package; JVMS 4.4.12: such a constant holds the number of
 -- the Utf8 of its name; JVMS 4.2.3 for the slashes in it). Where the constants stand that it needs,
 -- and which classes stay as they are, is this project's rule.
-use Rattle.std.specs.Prelude.{◌≡◌, ℕ, ◌+◌, ◌*◌, nat_le, nat_lt, Bool, true, not, ◌&&◌, ◌||◌}
+use Rattle.std.specs.Prelude.{◌≡◌, ℕ, ◌+◌, ◌*◌, nat_le, nat_lt, Bool, true, false, not, ◌&&◌, ◌||◌}
 use Rattle.std.specs.Prelude.{List, [], ◌∷◌, ◌++◌, length, codes, if◌then◌else◌, Some, None}
 use Rattle.std.specs.Prelude.{filter, map, Result, Ok, Err, IfOk, OnOk}
 use Rattle.std.specs.List.{before_last, cons_option, flat_map, list_all, list_any}
@@ -11,13 +11,16 @@ use Rattle.jm_bytes.specs.declared.faults.Or.TheVariants.{Fault}
 use Rattle.jm_class.specs.declared.class.ClassFault.{ClassFault}
 use Rattle.jm_class.specs.Classes.{SlotData, Constant, Opaque, AttributeData, ClassData, u2}
 use Rattle.jm_class.specs.Classes.{utf8_at, class_text, ReadsAs}
+use Rattle.jm_class.specs.Layouts.{Says}
 use Rattle.jm_class.specs.Releases.{ReadsFor, fault_for}
 use Rattle.jm_form.specs.Rising.{rising}
 use Rattle.jm_modinfo.specs.declared.descriptor.Descriptor.{Descriptor}
 use Rattle.jm_modinfo.specs.declared.faults.InfoFault.{InfoFault}
 use Rattle.jm_modinfo.specs.ComputedInfo.{info_of}
-use Rattle.jm_modinfo.specs.Descriptors.{is_named}
+use Rattle.jm_modinfo.specs.declared.constants.Kind.TheVariants.{Package}
+use Rattle.jm_modinfo.specs.Descriptors.{bodies, is_named}
 use Rattle.jm_modinfo.specs.Flags.{is_module}
+use Rattle.jm_modinfo.specs.ModuleLayout.{names}
 use Rattle.jm_modinfo.specs.Written.{utf8, numbers_text}
 use Rattle.jm_names.specs.Names.{dotted, is_dot, is_empty, is_slash}
 
@@ -85,6 +88,21 @@ packaged packages c = if takes_packages packages c then with_packages packages c
 abbrev pub packages_text : List (List ℕ) → ClassData → List ℕ
 packages_text packages c = class_text (packaged packages c)
 
+-- What a class says of its packages
+
+-- the rule: the class has one attribute of that name, whose bytes say these packages in this order:
+-- a count, and that many numbers of Package constants, which hold the numbers of the names
+pub record SaysPackages (c : ClassData) (packages : List (List ℕ)) : Type 0 where
+  pub body : List ℕ
+  pub only : bodies c.pool attribute_name c.attributes ≡ body ∷ []
+  pub says : Says (names c.pool Package) packages body
+
+-- what is made of a class says exactly these packages where the class takes their list, and else
+-- it is the class
+pub record IsListed (packages : List (List ℕ)) (class made : ClassData) : Type 0 where
+  pub taken : takes_packages packages class ≡ true → SaysPackages made packages
+  pub other : takes_packages packages class ≡ false → made ≡ class
+
 -- Which packages a class is to list
 
 -- the packages that are named by some texts: those that aren't empty, with dots
@@ -130,8 +148,8 @@ pub record ListsTo (release : ℕ) (packages_of : ClassData → List (List ℕ))
   pub is : text ≡ packages_text (packages_of class) class
 
 -- what listing its packages in the class of a release gives: the text of the one class with them,
--- which reads as a class of that release, says what it said, and stays when its packages are listed
--- again; or the first fault
+-- which reads as a class of that release, says what it said and exactly these packages, and stays
+-- when its packages are listed again; or the first fault
 pub record ListsFor (release : ℕ) (packages_of : ClassData → List (List ℕ)) (bytes : List ℕ)
     (result : Result (List ℕ) (Or ClassFault)) : Type 0 where
   pub text : IfOk result (λ text. ListsTo release packages_of bytes text)
@@ -141,6 +159,8 @@ pub record ListsFor (release : ℕ) (packages_of : ClassData → List (List ℕ)
       → ReadsFor release text (packaged (packages_of c) c))
   pub info : IfOk result (λ text. (c made : ClassData) (d : Descriptor) → ReadsAs bytes c
       → ReadsAs text made → info_of c ≡ Ok d → info_of made ≡ Ok d)
+  pub said : IfOk result (λ text. (c made : ClassData) → ReadsAs bytes c → ReadsAs text made
+      → IsListed (packages_of c) c made)
   pub again : IfOk result (λ text. (made : ClassData) → ReadsAs text made
       → packages_text (packages_of made) made ≡ text)
   pub no_fault : OnOk result (fault_for release bytes ≡ None)
