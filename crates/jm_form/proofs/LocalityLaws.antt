@@ -20,23 +20,24 @@ use Rattle.jm_form.specs.declared.container.HeaderFault.TheVariants as fault
 use Rattle.jm_form.specs.declared.damage.Damage.{Damage}
 use Rattle.jm_form.specs.declared.damage.Damage.TheVariants as damage
 use Rattle.jm_form.specs.declared.ranges.Range.{Range}
+use Rattle.jm_form.specs.declared.rows.Compression.{Compression}
 use Rattle.jm_form.specs.declared.rows.Row.{Row}
 use Rattle.jm_form.specs.declared.slots.SlotRow.TheVariants as slot_row
 use Rattle.jm_form.specs.declared.table.Redirect.TheVariants as redirect
 use Rattle.jm_form.specs.ComputedOverlap.{first_overlap}
 use Rattle.jm_form.specs.ComputedRows.{row_front}
-use Rattle.jm_form.specs.Damages.{damage_with, entries_checks, entry_checks, first_damage, front_damage}
-use Rattle.jm_form.specs.Damages.{front_damage_with, image_checks, image_checks_with, slot_fault_with}
-use Rattle.jm_form.specs.Damages.{slot_faults_with}
+use Rattle.jm_form.specs.Damages.{damage_by, damage_with, entries_checks, entry_checks, front_damage}
+use Rattle.jm_form.specs.Damages.{front_damage_with, image_checks, slot_fault_with, slot_faults}
 use Rattle.jm_form.specs.Entries.{Entry, entries, entry_at, entry_of, indexed, is_reached, name_of, row_at}
 use Rattle.jm_form.specs.Entries.{row_at_place, row_of_slot, row_read, row_text, spelled_row}
 use Rattle.jm_form.specs.Head.{HoldsHead, HoldsIndex, IsFileOf, fields_in, fields_of, header_of, header_with}
 use Rattle.jm_form.specs.Head.{index_length, order_of, read_order, version_of}
-use Rattle.jm_form.specs.Overlap.{range_of, ranges_of}
+use Rattle.jm_form.specs.Overlap.{range_by, ranges_by}
 use Rattle.jm_form.specs.Places.{contents, contents_size, locations, locations_place, offset_place}
 use Rattle.jm_form.specs.Places.{offset_word, redirect_place, redirect_word, strings, strings_place}
+use Rattle.jm_form.specs.Rows.{judged}
 use Rattle.jm_form.specs.Table.{is_slot, probe, redirect_at, redirect_of, slot_of}
-use Rattle.jm_form.specs.Validity.{ValidAs}
+use Rattle.jm_form.specs.Validity.{SoundAs}
 use Rattle.jm_form.proofs.HeadLaws.{head_read, header_fits, read_head}
 use Rattle.jm_form.proofs.Validity.{body_valid}
 
@@ -175,8 +176,8 @@ module _ (f b : List ℕ) (h : Header) (same : SameIndex f b h) where
 
   -- Slots, with contents of so many bytes
 
-  pub same_slot_fault : (size i : ℕ) → i < h.length → slot_fault_with f h size i ≡ slot_fault_with b h size i
-  same_slot_fault size i below =
+  pub same_slot_fault : (c : Compression) (size i : ℕ) → i < h.length → slot_fault_with c f h size i ≡ slot_fault_with c b h size i
+  same_slot_fault c size i below =
       ap (λ w. fault_by w (row_text f h i) (strings f h) (row_at f h i)) (same.offsets i below)
       ∙ ap (λ t. fault_by (offset_word b h i) t (strings f h) (row_at f h i)) (same_row_text i below)
       ∙ ap (λ s. fault_by (offset_word b h i) (row_text b h i) s (row_at f h i)) same.strings
@@ -187,18 +188,18 @@ module _ (f b : List ℕ) (h : Header) (same : SameIndex f b h) where
           first_fault (
           fault_if (not (nat_lt w h.locations)) (damage.Offset i)
           ∷ fault_if (is_none (row_front text)) (damage.Row i)
-          ∷ entry_checks i section size row
+          ∷ entry_checks c i section size row
           )
 
-  faults_between : (size i n : ℕ) → i + n ≤ h.length → map (slot_fault_with f h size) (range_with_len i n)
-      ≡ map (slot_fault_with b h size) (range_with_len i n)
-  faults_between size i zero within = refl
-  faults_between size i (suc n) within =
-      ap (λ o. o ∷ map (slot_fault_with f h size) (range_with_len (i + 1) n)) (same_slot_fault size i (omega arith))
-      ∙ ap (λ os. slot_fault_with b h size i ∷ os) (faults_between size (i + 1) n (omega arith))
+  faults_between : (c : Compression) (size i n : ℕ) → i + n ≤ h.length → map (slot_fault_with c f h size) (range_with_len i n)
+      ≡ map (slot_fault_with c b h size) (range_with_len i n)
+  faults_between c size i zero within = refl
+  faults_between c size i (suc n) within =
+      ap (λ o. o ∷ map (slot_fault_with c f h size) (range_with_len (i + 1) n)) (same_slot_fault c size i (omega arith))
+      ∙ ap (λ os. slot_fault_with c b h size i ∷ os) (faults_between c size (i + 1) n (omega arith))
 
-  pub same_slot_faults : (size : ℕ) → slot_faults_with f h size ≡ slot_faults_with b h size
-  same_slot_faults size = faults_between size 0 h.length (omega arith)
+  pub same_slot_faults : (c : Compression) (size : ℕ) → slot_faults c f h size ≡ slot_faults c b h size
+  same_slot_faults c size = faults_between c size 0 h.length (omega arith)
 
   -- Entries
 
@@ -245,51 +246,56 @@ module _ (f b : List ℕ) (h : Header) (same : SameIndex f b h) where
   same_count = sym (length-map (entries f h) indexed) ∙ ap length same_entries ∙ length-map (entries b h) indexed
 
   -- and their contents stand at the same places
-  pub same_ranges : ranges_of (entries f h) ≡ ranges_of (entries b h)
-  same_ranges = by_index (entries f h) ∙ ap (map range_by) same_entries ∙ sym (by_index (entries b h))
+  pub same_ranges : (c : Compression) → ranges_by c (entries f h) ≡ ranges_by c (entries b h)
+  same_ranges c = by_index (entries f h) ∙ ap (map row_range) same_entries ∙ sym (by_index (entries b h))
     where
-      range_by : ℕ × Row × List ℕ → Range
-      range_by x = record { start = x.1.offset; slot = x.0; end = x.1.offset + x.1.size }
+      row_range : ℕ × Row × List ℕ → Range
+      row_range x = record {
+        start = (judged c x.1).offset;
+        slot = x.0;
+        end = (judged c x.1).offset + (judged c x.1).size;
+      }
 
-      by_index : (es : List Entry) → ranges_of es ≡ map range_by (map indexed es)
+      by_index : (es : List Entry) → ranges_by c es ≡ map row_range (map indexed es)
       by_index [] = refl
-      by_index (e ∷ es) = ap (λ rs. range_of e ∷ rs) (by_index es)
+      by_index (e ∷ es) = ap (λ rs. range_by c e ∷ rs) (by_index es)
 
   -- Images
 
   -- so the checks of both find the same, with contents of so many bytes
-  pub same_checks : (size : ℕ) → image_checks_with f h size ≡ image_checks_with b h size
-  same_checks size =
-      ap (λ os. os ++ entries_checks h.count (entries f h)) (same_slot_faults size)
-      ∙ ap (λ n. slot_faults_with b h size ++ checks_by n (ranges_of (entries f h))) same_count
-      ∙ ap (λ rs. slot_faults_with b h size ++ checks_by (length (entries b h)) rs) same_ranges
+  pub same_checks : (c : Compression) (size : ℕ) → image_checks c f h size ≡ image_checks c b h size
+  same_checks c size =
+      ap (λ os. os ++ entries_checks c h.count (entries f h)) (same_slot_faults c size)
+      ∙ ap (λ n. slot_faults c b h size ++ checks_by n (ranges_by c (entries f h))) same_count
+      ∙ ap (λ rs. slot_faults c b h size ++ checks_by (length (entries b h)) rs) (same_ranges c)
     where
       checks_by : ℕ → List Range → List (Option Damage)
       checks_by n rs = fault_if (not (h.count == n)) (damage.Count h.count n) ∷ option_map (λ o. damage.Overlap o.0 o.1)
           (first_overlap rs) ∷ []
 
 -- the checks of a front with the index, with the size of the file's contents, are those of the file
-pub checks_same : (f : List ℕ) (size : ℕ) (b : List ℕ) (h : Header) → IsFileOf f size b → index_length h ≤ length f
-    → image_checks_with f h (contents_size size h) ≡ image_checks b h
-checks_same f size b h file within =
+pub checks_same : (c : Compression) (f : List ℕ) (size : ℕ) (b : List ℕ) (h : Header) → IsFileOf f size b → index_length h ≤ length f
+    → image_checks c f h (contents_size size h) ≡ image_checks c b h (length (contents b h))
+checks_same c f size b h file within =
     let behind : length (contents b h) ≡ contents_size size h = length-drop (index_length h) b
     ∙ ap (λ n. n - index_length h) file.length_is in
-    same_checks f b h (same_index f size b h file within) (contents_size size h) ∙ ap (image_checks_with b h) (sym behind)
+    same_checks f b h (same_index f size b h file within) c (contents_size size h) ∙ ap (image_checks c b h) (sym behind)
 
 -- the damage that a front with the index tells is that of each file that begins so
-pub damage_same : (f : List ℕ) (size : ℕ) (b : List ℕ) → IsFileOf f size b → HoldsIndex f size → front_damage f size ≡ first_damage b
-damage_same f size b file holds = go (header_with f size) refl ∙ ap (damage_with b) (header_same f size b file holds.head)
+pub damage_same : (c : Compression) (f : List ℕ) (size : ℕ) (b : List ℕ) → IsFileOf f size b → HoldsIndex f size
+    → front_damage c f size ≡ damage_by c b
+damage_same c f size b file holds = go (header_with f size) refl ∙ ap (damage_with c b) (header_same f size b file holds.head)
   where
-    go : (r : Result Header HeaderFault) → header_with f size ≡ r → front_damage_with f size r ≡ damage_with b r
-    go (Ok h) e = ap first_fault (checks_same f size b h file (holds.index h e))
+    go : (r : Result Header HeaderFault) → header_with f size ≡ r → front_damage_with c f size r ≡ damage_with c b r
+    go (Ok h) e = ap first_fault (checks_same c f size b h file (holds.index h e))
     go (Err found) e = refl
 
 -- a front with the index in which nothing is wrong begins valid files
-pub front_valid : (f : List ℕ) (size : ℕ) (b : List ℕ) (h : Header) → IsFileOf f size b → HoldsIndex f size → header_with f size
-    ≡ Ok h → front_damage f size ≡ None → ValidAs b h
-front_valid f size b h file holds header clear =
+pub front_valid : (c : Compression) (f : List ℕ) (size : ℕ) (b : List ℕ) (h : Header) → IsFileOf f size b → HoldsIndex f size
+    → header_with f size ≡ Ok h → front_damage c f size ≡ None → SoundAs c b h
+front_valid c f size b h file holds header clear =
     let read = sym (header_same f size b file holds.head) ∙ header in
-    body_valid b h read (sym (ap (damage_with b) read) ∙ (sym (damage_same f size b file holds) ∙ clear))
+    body_valid c b h read (sym (ap (damage_with c b) read) ∙ (sym (damage_same c f size b file holds) ∙ clear))
 
 -- The whole file
 

@@ -9,6 +9,8 @@ use Rattle.jm_bytes.specs.Checks.{fault_if, first_fault}
 use Rattle.jm_form.specs.declared.container.Header.{Header}
 use Rattle.jm_form.specs.declared.damage.Damage.{Damage}
 use Rattle.jm_form.specs.declared.damage.Damage.TheVariants as damage
+use Rattle.jm_form.specs.declared.rows.Compression.{Compression}
+use Rattle.jm_form.specs.declared.rows.Compression.TheVariants.{Refused}
 use Rattle.jm_form.specs.declared.rows.Row.{Row}
 use Rattle.jm_form.specs.declared.slots.SlotRow.{SlotRow}
 use Rattle.jm_form.specs.declared.slots.SlotRow.TheVariants as slot_row
@@ -16,6 +18,7 @@ use Rattle.jm_form.specs.ComputedRows.{row_front}
 use Rattle.jm_form.specs.Damages.{content_fits, entry_checks, row_checks, slot_fault, slot_fault_with}
 use Rattle.jm_form.specs.Entries.{row_at, row_of_slot, row_read, row_text, spelled_row, texts_end}
 use Rattle.jm_form.specs.Places.{contents, offset_word, strings}
+use Rattle.jm_form.specs.Rows.{judged}
 use Rattle.jm_form.specs.Texts.{text_ends}
 use Rattle.jm_form.specs.Validity.{SoundRow, SoundRowWith}
 
@@ -24,43 +27,43 @@ use Rattle.jm_form.specs.Validity.{SoundRow, SoundRowWith}
 abbrev slot_row_from : Bool → Option (Row × ℕ) → SlotRow
 slot_row_from inside read = cond inside (row_read read) slot_row.Outside
 
-abbrev checks_from : ℕ → List ℕ → ℕ → Bool → Option (Row × ℕ) → List (Option Damage)
-checks_from i section size inside read =
+abbrev checks_from : Compression → ℕ → List ℕ → ℕ → Bool → Option (Row × ℕ) → List (Option Damage)
+checks_from c i section size inside read =
     fault_if (not inside) (damage.Offset i)
     ∷ fault_if (is_none read) (damage.Row i)
-    ∷ entry_checks i section size (spelled_row (slot_row_from inside read))
+    ∷ entry_checks c i section size (spelled_row (slot_row_from inside read))
 
-blank_fault : (i : ℕ) (section : List ℕ) (size : ℕ) (inside : Bool) (read : Option (Row × ℕ)) → slot_row_from inside read
-    ≡ slot_row.Blank → first_fault (checks_from i section size inside read) ≡ None
-blank_fault i section size false read e = cc
-blank_fault i section size true None e = cc
-blank_fault i section size true (Some r) e = ap (λ s. first_fault (entry_checks i section size (spelled_row s))) e
+blank_fault : (c : Compression) (i : ℕ) (section : List ℕ) (size : ℕ) (inside : Bool) (read : Option (Row × ℕ)) → slot_row_from inside read
+    ≡ slot_row.Blank → first_fault (checks_from c i section size inside read) ≡ None
+blank_fault c i section size false read e = cc
+blank_fault c i section size true None e = cc
+blank_fault c i section size true (Some r) e = ap (λ s. first_fault (entry_checks c i section size (spelled_row s))) e
 
-spelled_fault : (i : ℕ) (section : List ℕ) (size : ℕ) (inside : Bool) (read : Option (Row × ℕ)) (row : Row)
-    → slot_row_from inside read ≡ slot_row.Spelled row → first_fault (checks_from i section size inside read)
-    ≡ first_fault (row_checks i section size row)
-spelled_fault i section size false read row e = cc
-spelled_fault i section size true None row e = cc
-spelled_fault i section size true (Some r) row e = ap (λ s. first_fault (entry_checks i section size (spelled_row s))) e
+spelled_fault : (c : Compression) (i : ℕ) (section : List ℕ) (size : ℕ) (inside : Bool) (read : Option (Row × ℕ)) (row : Row)
+    → slot_row_from inside read ≡ slot_row.Spelled row → first_fault (checks_from c i section size inside read)
+    ≡ first_fault (row_checks i section size (judged c row))
+spelled_fault c i section size false read row e = cc
+spelled_fault c i section size true None row e = cc
+spelled_fault c i section size true (Some r) row e = ap (λ s. first_fault (entry_checks c i section size (spelled_row s))) e
 
 -- The fault of a slot, with contents of so many bytes
 
-pub slot_blank_with : (b : List ℕ) (h : Header) (size i : ℕ) → row_of_slot b h i ≡ slot_row.Blank → slot_fault_with b h size i ≡ None
-slot_blank_with b h size i e = blank_fault i (strings b h) size (nat_lt (offset_word b h i) h.locations) (row_front (row_text b h i)) e
+pub slot_blank_with : (c : Compression) (b : List ℕ) (h : Header) (size i : ℕ) → row_of_slot b h i ≡ slot_row.Blank → slot_fault_with c b h size i ≡ None
+slot_blank_with c b h size i e = blank_fault c i (strings b h) size (nat_lt (offset_word b h i) h.locations) (row_front (row_text b h i)) e
 
-pub slot_spelled_with : (b : List ℕ) (h : Header) (size i : ℕ) (row : Row) → row_of_slot b h i ≡ slot_row.Spelled row
-    → slot_fault_with b h size i ≡ first_fault (row_checks i (strings b h) size row)
-slot_spelled_with b h size i row e = spelled_fault i (strings b h) size (nat_lt (offset_word b h i) h.locations)
+pub slot_spelled_with : (c : Compression) (b : List ℕ) (h : Header) (size i : ℕ) (row : Row) → row_of_slot b h i ≡ slot_row.Spelled row
+    → slot_fault_with c b h size i ≡ first_fault (row_checks i (strings b h) size (judged c row))
+slot_spelled_with c b h size i row e = spelled_fault c i (strings b h) size (nat_lt (offset_word b h i) h.locations)
     (row_front (row_text b h i)) row e
 
--- with the contents of the bytes
+-- with the contents of the bytes, none compressed
 
 pub slot_blank : (b : List ℕ) (h : Header) (i : ℕ) → row_of_slot b h i ≡ slot_row.Blank → slot_fault b h i ≡ None
-slot_blank b h i e = slot_blank_with b h (length (contents b h)) i e
+slot_blank b h i e = slot_blank_with Refused b h (length (contents b h)) i e
 
 pub slot_spelled : (b : List ℕ) (h : Header) (i : ℕ) (row : Row) → row_of_slot b h i ≡ slot_row.Spelled row → slot_fault b h i
     ≡ first_fault (row_checks i (strings b h) (length (contents b h)) row)
-slot_spelled b h i row e = slot_spelled_with b h (length (contents b h)) i row e
+slot_spelled b h i row e = slot_spelled_with Refused b h (length (contents b h)) i row e
 
 -- A slot without a fault
 
@@ -108,14 +111,14 @@ checked_row s all i row clear =
     text_check : List ℕ → ℕ → ℕ → Option Damage
     text_check s kind place = fault_if (not (text_ends s place)) (damage.Text i kind)
 
--- the row of a slot without a fault, where it isn't blank, is sound
-pub sound_row_with : (b : List ℕ) (h : Header) (size i : ℕ) (row : Row) → slot_fault_with b h size i ≡ None → row_at b h i
-    ≡ Some row → SoundRowWith (strings b h) size row
-sound_row_with b h size i row clear there = checked_row (strings b h) size i row
-    (sym (slot_spelled_with b h size i row (row_spelled b h i row there)) ∙ clear)
+-- the row of a slot without a fault, where it isn't blank, is sound as it is judged
+pub sound_row_with : (c : Compression) (b : List ℕ) (h : Header) (size i : ℕ) (row : Row) → slot_fault_with c b h size i ≡ None → row_at b h i
+    ≡ Some row → SoundRowWith (strings b h) size (judged c row)
+sound_row_with c b h size i row clear there = checked_row (strings b h) size i (judged c row)
+    (sym (slot_spelled_with c b h size i row (row_spelled b h i row there)) ∙ clear)
 
 pub sound_row : (b : List ℕ) (h : Header) (i : ℕ) (row : Row) → slot_fault b h i ≡ None → row_at b h i ≡ Some row → SoundRow b h row
-sound_row b h i row clear there = sound_row_with b h (length (contents b h)) i row clear there
+sound_row b h i row clear there = sound_row_with Refused b h (length (contents b h)) i row clear there
 
 all_four : (a b c d : Bool) → a ≡ true → b ≡ true → c ≡ true → d ≡ true → a && b && c && d ≡ true
 all_four a b c d one two three four = rw (one, two, three, four) refl

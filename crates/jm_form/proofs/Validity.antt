@@ -9,26 +9,25 @@ use Rattle.jm_bytes.specs.Checks.{fault_if, first_fault}
 use Rattle.jm_form.specs.declared.container.Header.{Header}
 use Rattle.jm_form.specs.declared.container.HeaderFault.{HeaderFault}
 use Rattle.jm_form.specs.declared.damage.Damage.TheVariants as damage
+use Rattle.jm_form.specs.declared.rows.Compression.{Compression}
+use Rattle.jm_form.specs.declared.rows.Compression.TheVariants.{Refused}
 use Rattle.jm_form.specs.ComputedOverlap.{first_overlap}
-use Rattle.jm_form.specs.Damages.{damage_with, entries_checks, first_damage, image_checks, slot_fault}
-use Rattle.jm_form.specs.Damages.{slot_fault_with, slot_faults, slot_faults_with}
+use Rattle.jm_form.specs.Damages.{damage_by, damage_with, entries_checks, first_damage, image_checks}
+use Rattle.jm_form.specs.Damages.{slot_fault_with, slot_faults}
 use Rattle.jm_form.specs.Entries.{Entry, entries}
 use Rattle.jm_form.specs.Head.{header_of}
-use Rattle.jm_form.specs.Overlap.{Apart, ranges_of}
+use Rattle.jm_form.specs.Overlap.{Apart, ranges_by}
 use Rattle.jm_form.specs.Places.{contents}
-use Rattle.jm_form.specs.Validity.{SoundSlots, SoundSlotsWith, Valid, ValidAs}
+use Rattle.jm_form.specs.Validity.{SoundAs, SoundSlotsWith, Valid}
 use Rattle.jm_form.proofs.OverlapNone.{apart_no_overlap, no_overlap_apart}
 
 -- Slots
 
-pub slots_sound_with : (b : List ℕ) (h : Header) (size : ℕ) → first_fault (slot_faults_with b h size) ≡ None → SoundSlotsWith b h size
-slots_sound_with b h size clear i below = no_fault_between (slot_fault_with b h size) 0 h.length clear i (omega arith) (omega arith)
+pub slots_sound : (c : Compression) (b : List ℕ) (h : Header) (size : ℕ) → first_fault (slot_faults c b h size) ≡ None → SoundSlotsWith c b h size
+slots_sound c b h size clear i below = no_fault_between (slot_fault_with c b h size) 0 h.length clear i (omega arith) (omega arith)
 
-pub slots_sound : (b : List ℕ) (h : Header) → first_fault (slot_faults b h) ≡ None → SoundSlots b h
-slots_sound b h = slots_sound_with b h (length (contents b h))
-
-pub sound_slots : (b : List ℕ) (h : Header) → SoundSlots b h → first_fault (slot_faults b h) ≡ None
-sound_slots b h sound = no_fault_from_between (slot_fault b h) 0 h.length (λ i from to. sound i (omega arith))
+pub sound_slots : (c : Compression) (b : List ℕ) (h : Header) (size : ℕ) → SoundSlotsWith c b h size → first_fault (slot_faults c b h size) ≡ None
+sound_slots c b h size sound = no_fault_from_between (slot_fault_with c b h size) 0 h.length (λ i from to. sound i (omega arith))
 
 -- Entries
 
@@ -37,28 +36,28 @@ no_overlap None e = refl
 no_overlap (Some o) e = cc
 
 -- the count is that of the entries, and no two of their contents meet
-pub record SoundEntries (stated : ℕ) (es : List Entry) : Type 0 where
+pub record SoundEntries (c : Compression) (stated : ℕ) (es : List Entry) : Type 0 where
   pub count : stated ≡ length es
-  pub apart : Apart (ranges_of es)
+  pub apart : Apart (ranges_by c es)
 
-pub entries_sound : (stated : ℕ) (es : List Entry) → first_fault (entries_checks stated es) ≡ None → SoundEntries stated es
-entries_sound stated es clear =
+pub entries_sound : (c : Compression) (stated : ℕ) (es : List Entry) → first_fault (entries_checks c stated es) ≡ None → SoundEntries c stated es
+entries_sound c stated es clear =
     let count = fault_if (not (stated == length es)) (damage.Count stated (length es)) in
-    let overlap = option_map (λ o. damage.Overlap o.0 o.1) (first_overlap (ranges_of es)) in
+    let overlap = option_map (λ o. damage.Overlap o.0 o.1) (first_overlap (ranges_by c es)) in
     let counted = fault_if_none (not (stated == length es)) (damage.Count stated (length es)) (no_fault_head count (overlap ∷ []) clear) in
     let alone = no_fault_head overlap [] (no_fault_tail count (overlap ∷ []) clear) in
     record {
       count = eqb-true stated (length es) (not-false (stated == length es) counted);
-      apart = no_overlap_apart (ranges_of es) (no_overlap (first_overlap (ranges_of es)) alone);
+      apart = no_overlap_apart (ranges_by c es) (no_overlap (first_overlap (ranges_by c es)) alone);
     }
 
-pub sound_entries : (stated : ℕ) (es : List Entry) → SoundEntries stated es → first_fault (entries_checks stated es) ≡ None
-sound_entries stated es sound =
+pub sound_entries : (c : Compression) (stated : ℕ) (es : List Entry) → SoundEntries c stated es → first_fault (entries_checks c stated es) ≡ None
+sound_entries c stated es sound =
     let count = fault_if (not (stated == length es)) (damage.Count stated (length es)) in
-    let overlap = option_map (λ o. damage.Overlap o.0 o.1) (first_overlap (ranges_of es)) in
+    let overlap = option_map (λ o. damage.Overlap o.0 o.1) (first_overlap (ranges_by c es)) in
     let counted = fault_if_false (not (stated == length es)) (damage.Count stated (length es))
     (ap not (eq-eqb stated (length es) sound.count)) in
-    let alone = ap (option_map (λ o. damage.Overlap o.0 o.1)) (apart_no_overlap (ranges_of es) sound.apart) in
+    let alone = ap (option_map (λ o. damage.Overlap o.0 o.1)) (apart_no_overlap (ranges_by c es) sound.apart) in
     no_fault_cons count (overlap ∷ []) counted (no_fault_cons overlap [] alone refl)
 
 -- Images
@@ -71,27 +70,41 @@ both_none {F} xs ys clear = go (first_fault xs) refl
     go None e = (e, sym (first_fault_append_none xs ys e) ∙ clear)
     go (Some fault) e = let both = sym clear ∙ first_fault_append_some xs ys fault e in cc
 
-pub body_valid : (b : List ℕ) (h : Header) → header_of b ≡ Ok h → first_fault (image_checks b h) ≡ None → ValidAs b h
-body_valid b h header clear =
-    let both = both_none (slot_faults b h) (entries_checks h.count (entries b h)) clear in
-    let sound = entries_sound h.count (entries b h) both.1 in
-    record { header = header; slots = slots_sound b h both.0; count = sound.count; apart = sound.apart }
+pub body_valid : (c : Compression) (b : List ℕ) (h : Header) → header_of b ≡ Ok h
+    → first_fault (image_checks c b h (length (contents b h))) ≡ None → SoundAs c b h
+body_valid c b h header clear =
+    let size = length (contents b h) in
+    let both = both_none (slot_faults c b h size) (entries_checks c h.count (entries b h)) clear in
+    let sound = entries_sound c h.count (entries b h) both.1 in
+    record { header = header; slots = slots_sound c b h size both.0; count = sound.count; apart = sound.apart }
 
 -- a valid image passes all checks
-pub valid_body : (b : List ℕ) (h : Header) → ValidAs b h → first_fault (image_checks b h) ≡ None
-valid_body b h valid =
-    let slots = sound_slots b h valid.slots in
-    let sound = sound_entries h.count (entries b h) (record { count = valid.count; apart = valid.apart }) in
-    first_fault_append_none (slot_faults b h) (entries_checks h.count (entries b h)) slots ∙ sound
+pub valid_body : (c : Compression) (b : List ℕ) (h : Header) → SoundAs c b h
+    → first_fault (image_checks c b h (length (contents b h))) ≡ None
+valid_body c b h valid =
+    let size = length (contents b h) in
+    let slots = sound_slots c b h size valid.slots in
+    let sound = sound_entries c h.count (entries b h) (record { count = valid.count; apart = valid.apart }) in
+    first_fault_append_none (slot_faults c b h size) (entries_checks c h.count (entries b h)) slots ∙ sound
+
+-- an image in which no check finds a fault is valid
+pub undamaged_valid : (c : Compression) (b : List ℕ) → damage_by c b ≡ None → (h : Header) × SoundAs c b h
+undamaged_valid c b clear = go (header_of b) refl clear
+  where
+    go : (r : Result Header HeaderFault) → header_of b ≡ r → damage_with c b r ≡ None → (h : Header) × SoundAs c b h
+    go (Ok h) header clear = (h, body_valid c b h header clear)
+    go (Err fault) header clear = cc
+
+-- a valid image has no damage
+pub valid_undamaged : (c : Compression) (b : List ℕ) (h : Header) → SoundAs c b h → damage_by c b ≡ None
+valid_undamaged c b h valid = ap (damage_with c b) valid.header ∙ valid_body c b h valid
+
+-- With no content compressed
 
 -- an image without a first damage is valid
 pub sound_valid : (b : List ℕ) → first_damage b ≡ None → Valid b
-sound_valid b clear = go (header_of b) refl clear
-  where
-    go : (r : Result Header HeaderFault) → header_of b ≡ r → damage_with b r ≡ None → Valid b
-    go (Ok h) header clear = (h, body_valid b h header clear)
-    go (Err fault) header clear = cc
+sound_valid b clear = undamaged_valid Refused b clear
 
 -- a valid image has no first damage
 pub valid_sound : (b : List ℕ) → Valid b → first_damage b ≡ None
-valid_sound b (h, valid) = ap (damage_with b) valid.header ∙ valid_body b h valid
+valid_sound b (h, valid) = valid_undamaged Refused b h valid

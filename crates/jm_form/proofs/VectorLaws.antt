@@ -7,7 +7,7 @@ use Rattle.jm_form.specs.declared.container.Header.{Header}
 use Rattle.jm_form.specs.declared.container.HeaderFault.TheVariants as fault
 use Rattle.jm_form.specs.declared.damage.Damage.TheVariants as damage
 use Rattle.jm_form.specs.DamageText.{damage_text}
-use Rattle.jm_form.specs.Damages.{first_damage}
+use Rattle.jm_form.specs.Damages.{first_damage, stored_damage}
 use Rattle.jm_form.specs.Entries.{entries}
 use Rattle.jm_form.specs.Head.{header_of}
 use Rattle.jm_form.specs.Validity.{look, resources}
@@ -50,6 +50,12 @@ kinds_fall = refl
 
 compressed_size : first_damage (slice_set tiny 41 0x30) ≡ Some (damage.Compressed 0)
 compressed_size = refl
+
+compressed_stored : stored_damage (slice_set tiny 41 0x30) ≡ None
+compressed_stored = refl
+
+stored_too_long : stored_damage (slice_set (slice_set tiny 41 0x30) 42 0x03) ≡ Some (damage.Range 0)
+stored_too_long = refl
 
 module_behind_strings : first_damage (slice_set tiny 38 0x0B) ≡ Some (damage.Text 0 1)
 module_behind_strings = refl

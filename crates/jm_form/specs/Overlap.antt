@@ -1,15 +1,25 @@
 -- Contents as ranges of bytes, and the first two that overlap (this project's rule).
 use Rattle.std.specs.Prelude.{ℕ, ◌+◌, ◌<◌, ◌≤◌, ◌≡◌, ◌≢◌, List, map, Contains}
 use Rattle.jm_form.specs.declared.ranges.Range.{Range}
+use Rattle.jm_form.specs.declared.rows.Compression.{Compression}
 use Rattle.jm_form.specs.Entries.{Entry}
+use Rattle.jm_form.specs.Rows.{judged}
 
 -- where an entry's content stands in the contents
 abbrev pub range_of : Entry → Range
 range_of e = record { start = e.row.offset; slot = e.slot; end = e.row.offset + e.row.size }
 
+-- the same by the entry's row as the compression judges it
+abbrev pub range_by : Compression → Entry → Range
+range_by c e = range_of (record e { row = judged c e.row })
+
 -- where the contents of entries stand, in the order of the entries
 abbrev pub ranges_of : List Entry → List Range
 ranges_of es = map range_of es
+
+-- the same by their rows as the compression judges them
+abbrev pub ranges_by : Compression → List Entry → List Range
+ranges_by c es = map (range_by c) es
 
 -- the place in the contents is one of the range's
 pub record Covers (r : Range) (place : ℕ) : Type 0 where

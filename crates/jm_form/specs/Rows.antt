@@ -5,6 +5,8 @@ use Rattle.std.specs.Prelude.{◌++◌, length, if◌then◌else◌}
 use Rattle.std.specs.List.{find, flat_map, range_with_len}
 use Rattle.std.specs.Option.{unwrap_or}
 use Rattle.byteorder.specs.Endian.{big_number, big_bytes}
+use Rattle.jm_form.specs.declared.rows.Compression.{Compression}
+use Rattle.jm_form.specs.declared.rows.Compression.TheVariants.{Allowed, Refused}
 use Rattle.jm_form.specs.declared.rows.Row.{Row}
 
 -- the row in which no attribute is spelled
@@ -22,6 +24,17 @@ with_value row kind v =
     else if kind == 6 then record row { packed = v }
     else if kind == 7 then record row { size = v }
     else row
+
+-- the row as stored: with the compressed size, where that isn't 0, as the size of what is stored as
+-- it is
+abbrev pub as_stored : Row → Row
+as_stored row = record row { size = if row.packed == 0 then row.size else row.packed; packed = 0 }
+
+-- the row by which a content is judged: as it is spelled where contents may not be compressed, and
+-- as stored where they may be
+abbrev pub judged : Compression → Row → Row
+judged Refused row = row
+judged Allowed row = as_stored row
 
 -- an attribute: its kind and the bytes of its value, the highest first
 pub record Attribute : Type 0 where

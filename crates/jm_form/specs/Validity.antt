@@ -4,33 +4,47 @@ use Rattle.std.specs.Prelude.{None, option_map, Ok, Err, Result, IsPermutation}
 use Rattle.jm_names.specs.Names.{is_node}
 use Rattle.jm_form.specs.declared.container.Header.{Header}
 use Rattle.jm_form.specs.declared.container.HeaderFault.{HeaderFault}
+use Rattle.jm_form.specs.declared.rows.Compression.{Compression}
+use Rattle.jm_form.specs.declared.rows.Compression.TheVariants.{Allowed, Refused}
 use Rattle.jm_form.specs.declared.rows.Row.{Row}
 use Rattle.jm_form.specs.Damages.{slot_fault, slot_fault_with}
 use Rattle.jm_form.specs.Entries.{Entry, entries, entry_with}
 use Rattle.jm_form.specs.Head.{header_of}
-use Rattle.jm_form.specs.Overlap.{Apart, ranges_of}
+use Rattle.jm_form.specs.Overlap.{Apart, ranges_by}
 use Rattle.jm_form.specs.Places.{strings, contents}
 use Rattle.jm_form.specs.Texts.{text_ends}
 
 -- no slot has a fault, spare ones included, with contents of so many bytes
-abbrev pub SoundSlotsWith : List ℕ → Header → ℕ → Type 0
-SoundSlotsWith b h size = (i : ℕ) → i < h.length → slot_fault_with b h size i ≡ None
+abbrev pub SoundSlotsWith : Compression → List ℕ → Header → ℕ → Type 0
+SoundSlotsWith c b h size = (i : ℕ) → i < h.length → slot_fault_with c b h size i ≡ None
 
--- no slot has a fault, spare ones included
+-- no slot has a fault, spare ones included, with no content compressed
 abbrev pub SoundSlots : List ℕ → Header → Type 0
 SoundSlots b h = (i : ℕ) → i < h.length → slot_fault b h i ≡ None
 
--- the bytes are an image whose header is h: no slot has a fault, the count is the number of its
--- entries, and no two contents have a byte in common
-pub record ValidAs (b : List ℕ) (h : Header) : Type 0 where
+-- the bytes are an image whose header is h and whose contents may be compressed or not: no slot has
+-- a fault, the count is the number of its entries, and no two contents have a byte in common
+pub record SoundAs (c : Compression) (b : List ℕ) (h : Header) : Type 0 where
   pub header : header_of b ≡ Ok h
-  pub slots : SoundSlots b h
+  pub slots : SoundSlotsWith c b h (length (contents b h))
   pub count : h.count ≡ length (entries b h)
-  pub apart : Apart (ranges_of (entries b h))
+  pub apart : Apart (ranges_by c (entries b h))
+
+-- the bytes are an image whose header is h, with no content compressed
+abbrev pub ValidAs : List ℕ → Header → Type 0
+ValidAs b h = SoundAs Refused b h
+
+-- the bytes are an image whose header is h, read as stored
+abbrev pub StoredAs : List ℕ → Header → Type 0
+StoredAs b h = SoundAs Allowed b h
 
 -- the bytes are an image: there is a header by which they are valid
 abbrev pub Valid : List ℕ → Type 0
 Valid b = (h : Header) × ValidAs b h
+
+-- the bytes are an image, read as stored
+abbrev pub Stored : List ℕ → Type 0
+Stored b = (h : Header) × StoredAs b h
 
 -- what a row keeps in a slot without a fault: the content is stored as it is, the four texts end in
 -- the strings, and the content lies in contents of so many bytes

@@ -18,7 +18,7 @@ pub use container::{Header, HeaderFault, read_header, read_header_of};
 pub use damage::Damage;
 pub use module_files::{class_folder, path_of};
 pub use ranges::Range;
-pub use rows::{Row, read_row};
+pub use rows::{Compression, Row, read_row};
 pub use slots::{SlotRow, row_at_place, row_of_slot};
 pub use sorting::rising;
 pub use spelling::write_row;

@@ -1,7 +1,7 @@
 ghost use Rattle.std.specs.Prelude.{◌≡◌, ◌<◌, ◌≤◌, ℕ, length, take, option_map, IfNone, IfSome};
 ghost use Rattle.byteorder.specs.Endian.{big_number};
 ghost use Rattle.jm_form.specs.ComputedRows.{row_from, row_front};
-ghost use Rattle.jm_form.specs.Rows.{blank, with_value, Spells};
+ghost use Rattle.jm_form.specs.Rows.{as_stored, blank, judged, with_value, Spells};
 
 /// The attributes of a location row; one that isn't spelled is 0.
 #[derive(Clone, Copy, Debug, PartialEq, Eq)]
@@ -20,6 +20,46 @@ pub struct Row {
     pub packed: u64,
     /// The size of the content in bytes.
     pub size: u64,
+}
+
+impl Row {
+    /// The row as stored: with the compressed size, where that isn't 0, as the size of what is
+    /// stored as it is.
+    pub fn as_stored(&self) -> Row
+        ensures { result ≡ as_stored self.now }
+    {
+        let size = if self.packed == 0 {
+            self.size
+        } else {
+            self.packed
+        };
+        Row {
+            size,
+            packed: 0,
+            ..*self
+        }
+    }
+}
+
+/// Whether contents of an image may be compressed.
+#[derive(Clone, Copy, Debug, PartialEq, Eq)]
+pub enum Compression {
+    /// Each content is stored as it is.
+    Refused,
+    /// A content may be compressed, and counts as it is stored.
+    Allowed,
+}
+
+impl Compression {
+    /// The row by which a content is judged.
+    pub fn judged(self, row: &Row) -> Row
+        ensures { result ≡ judged self row.now }
+    {
+        match self {
+            Compression::Refused => *row,
+            Compression::Allowed => row.as_stored(),
+        }
+    }
 }
 
 const BLANK: Row = Row {
