@@ -7,6 +7,8 @@ mod descriptors;
 #[cfg(test)]
 mod meeting;
 #[cfg(test)]
+mod packed;
+#[cfg(test)]
 mod pieces;
 #[cfg(test)]
 mod plugins;
