@@ -2,7 +2,7 @@
 use Rattle.std.proofs.Common.{◌≡◌, ℕ, Some, sym, arith}
 use Rattle.jm_bytes.proofs.CheckLaws.{first_fault_append_none, first_fault_append_some, first_fault_least, no_fault_from_between}
 use Rattle.jm_form.specs.declared.damage.Damage.{Damage}
-use Rattle.jm_form.specs.Damages.{entries_checks, slot_faults_with}
+use Rattle.jm_form.specs.Damages.{entries_checks, slot_faults}
 use Rattle.jm_form.specs.Entries.{entries}
 use Rattle.jm_halves.specs.First.{IsFirstIn}
 use Rattle.jm_valid.specs.declared.sections.Sections.{Sections}
@@ -14,7 +14,7 @@ pub slots_decide : (s : Sections) (found : ℕ × Damage) → IsFirstIn (λ slot
 slots_decide s found first =
     let b = s.bytes.now in
     let h = s.header in
-    first_fault_append_some (slot_faults_with b h s.size) (entries_checks h.count (entries b h)) found.1
+    first_fault_append_some (slot_faults s.compression b h s.size) (entries_checks s.compression h.count (entries b h)) found.1
     (first_fault_least (slot_fault_in s) 0 h.length found.0 found.1 first.value.0 (omega arith)
     (λ k from to. sym (first.before k from to)) (sym first.value.2))
 
@@ -23,5 +23,5 @@ pub entries_decide : (s : Sections) → IsSound s → body_damage_in s ≡ entri
 entries_decide s sound =
     let b = s.bytes.now in
     let h = s.header in
-    first_fault_append_none (slot_faults_with b h s.size) (entries_checks h.count (entries b h))
+    first_fault_append_none (slot_faults s.compression b h s.size) (entries_checks s.compression h.count (entries b h))
     (no_fault_from_between (slot_fault_in s) 0 h.length (λ j from to. sound j (omega arith)))

@@ -12,9 +12,10 @@ use Rattle.jm_bytes.proofs.Choice.{chosen, same_some}
 use Rattle.jm_bytes.proofs.Members.{length_filter, length_filter_map}
 use Rattle.jm_bytes.proofs.Pairs.{pairs_map, range_more}
 use Rattle.jm_form.specs.declared.ranges.Range.{Range}
+use Rattle.jm_form.specs.declared.rows.Compression.{Compression}
 use Rattle.jm_form.specs.declared.rows.Row.{Row}
 use Rattle.jm_form.specs.Entries.{Entry, entries, entry_at, entry_of, is_reached, row_at}
-use Rattle.jm_form.specs.Overlap.{range_of, ranges_of}
+use Rattle.jm_form.specs.Overlap.{range_by, ranges_by}
 use Rattle.jm_form.specs.declared.container.Header.{Header}
 use Rattle.jm_form.proofs.EntryLaws.{slots_rise}
 use Rattle.jm_valid.specs.declared.sections.Sections.{Sections}
@@ -109,16 +110,17 @@ length-entries_at s slots =
     omega arith
 
 -- the ranges with those of one entry more
-pub ranges_more : (es : List Entry) (e : Entry) → ranges_with_bytes (ranges_of (es ++ e ∷ [])) ≡ ranges_with_bytes (ranges_of es)
-    ++ ranges_with_bytes (range_of e ∷ [])
-ranges_more es e = ap ranges_with_bytes (map-append range_of es (e ∷ [])) ∙ filter-append (λ (r : Range). nat_lt r.start r.end)
-    (ranges_of es) (range_of e ∷ [])
+pub ranges_more : (c : Compression) (es : List Entry) (e : Entry) → ranges_with_bytes (ranges_by c (es ++ e ∷ []))
+    ≡ ranges_with_bytes (ranges_by c es) ++ ranges_with_bytes (range_by c e ∷ [])
+ranges_more c es e = ap ranges_with_bytes (map-append (range_by c) es (e ∷ [])) ∙ filter-append (λ (r : Range). nat_lt r.start r.end)
+    (ranges_by c es) (range_by c e ∷ [])
 
 -- the ranges of an image's contents stand by rising slot
-pub ranges_rise : (b : List ℕ) (h : Header) → AllPairs (λ r s. r.slot < s.slot) (ranges_with_bytes (ranges_of (entries b h)))
-ranges_rise b h =
-    AllPairs-filter (λ (r s : Range). r.slot < s.slot) (λ (r : Range). nat_lt r.start r.end) (ranges_of (entries b h))
-    (pairs_map (λ (r s : Range). r.slot < s.slot) range_of (entries b h) (slots_rise b h))
+pub ranges_rise : (c : Compression) (b : List ℕ) (h : Header) → AllPairs (λ r s. r.slot < s.slot)
+    (ranges_with_bytes (ranges_by c (entries b h)))
+ranges_rise c b h =
+    AllPairs-filter (λ (r s : Range). r.slot < s.slot) (λ (r : Range). nat_lt r.start r.end) (ranges_by c (entries b h))
+    (pairs_map (λ (r s : Range). r.slot < s.slot) (range_by c) (entries b h) (slots_rise b h))
 
 -- and each has a byte
 pub ranges_some : (rs : List Range) → All (λ r. r.start < r.end) (ranges_with_bytes rs)

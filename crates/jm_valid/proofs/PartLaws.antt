@@ -11,8 +11,9 @@ use Rattle.std.specs.Prelude.{nat_lt}
 use Rattle.jm_bytes.specs.declared.texts.NoMemory.{NoMemory}
 use Rattle.jm_bytes.proofs.Pairs.{range_with_len-append}
 use Rattle.jm_form.specs.declared.ranges.Range.{Range}
+use Rattle.jm_form.specs.declared.rows.Compression.{Compression}
 use Rattle.jm_form.specs.Entries.{Entry}
-use Rattle.jm_form.specs.Overlap.{range_of, ranges_of}
+use Rattle.jm_form.specs.Overlap.{range_by, ranges_by}
 use Rattle.jm_valid.specs.declared.entries.Contents.{Contents}
 use Rattle.jm_valid.specs.declared.sections.Sections.{Sections}
 use Rattle.jm_valid.specs.Parts.{ContentsAt, Joins, entries_at, part_slots}
@@ -60,10 +61,10 @@ zip_length R (x ∷ xs) (y ∷ ys) zipped = ap (λ (n : ℕ). suc n) (zip_length
 abbrev pub IsPart : Sections → ℕ → Result Contents NoMemory → Type 0
 IsPart s first part = IfOk part (ContentsAt s (part_slots s.header.length first))
 
-ranges_append : (es fs : List Entry) → ranges_with_bytes (ranges_of (es ++ fs)) ≡ ranges_with_bytes (ranges_of es)
-    ++ ranges_with_bytes (ranges_of fs)
-ranges_append es fs = ap ranges_with_bytes (map-append range_of es fs) ∙ filter-append (λ (r : Range). nat_lt r.start r.end)
-    (ranges_of es) (ranges_of fs)
+ranges_append : (c : Compression) (es fs : List Entry) → ranges_with_bytes (ranges_by c (es ++ fs))
+    ≡ ranges_with_bytes (ranges_by c es) ++ ranges_with_bytes (ranges_by c fs)
+ranges_append c es fs = ap ranges_with_bytes (map-append (range_by c) es fs) ∙ filter-append (λ (r : Range). nat_lt r.start r.end)
+    (ranges_by c es) (ranges_by c fs)
 
 joined : (s : Sections) (is js : List ℕ) (old new part : Contents) → ContentsAt s is old → ContentsAt s js part → Joins old new part
     → ContentsAt s (is ++ js) new
@@ -74,9 +75,9 @@ joined s is js old new part front back joins =
       count = joins.count ∙ ap (λ (n : ℕ). n + part.count) front.count ∙ ap (λ (n : ℕ). length (entries_at s is) + n) back.count
           ∙ sym sum ∙ sym (ap length whole);
       ranges =
-          joins.ranges ∙ ap (λ rs. rs ++ part.ranges.items) front.ranges ∙ ap (λ rs. ranges_with_bytes (ranges_of (entries_at s is))
+          joins.ranges ∙ ap (λ rs. rs ++ part.ranges.items) front.ranges ∙ ap (λ rs. ranges_with_bytes (ranges_by s.compression (entries_at s is))
           ++ rs) back.ranges
-          ∙ sym (ranges_append (entries_at s is) (entries_at s js)) ∙ sym (ap (λ es. ranges_with_bytes (ranges_of es)) whole);
+          ∙ sym (ranges_append s.compression (entries_at s is) (entries_at s js)) ∙ sym (ap (λ es. ranges_with_bytes (ranges_by s.compression es)) whole);
     }
 
 -- the slots of the first parts, with one part more

@@ -3,7 +3,7 @@
 use Rattle.std.specs.Prelude.{ℕ, ◌+◌, ◌-◌, ◌≡◌, ◌++◌, List, length, min, filter, filter_map}
 use Rattle.std.specs.List.{range_with_len}
 use Rattle.jm_form.specs.Entries.{Entry, entry_at, is_reached}
-use Rattle.jm_form.specs.Overlap.{ranges_of}
+use Rattle.jm_form.specs.Overlap.{ranges_by}
 use Rattle.jm_valid.specs.declared.entries.Contents.{Contents}
 use Rattle.jm_valid.specs.declared.sections.Sections.{Sections}
 use Rattle.jm_valid.specs.Ranges.{ranges_with_bytes}
@@ -16,7 +16,7 @@ entries_at s slots =
 -- their number, and the ranges of those that have a byte
 pub record ContentsAt (s : Sections) (slots : List ℕ) (c : Contents) : Type 0 where
   pub count : c.count ≡ length (entries_at s slots)
-  pub ranges : c.ranges.items ≡ ranges_with_bytes (ranges_of (entries_at s slots))
+  pub ranges : c.ranges.items ≡ ranges_with_bytes (ranges_by s.compression (entries_at s slots))
 
 -- the slots of a table of so many, from one on: so many of them, or all that are left
 abbrev pub slots_from : ℕ → ℕ → ℕ → List ℕ

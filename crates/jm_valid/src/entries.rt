@@ -1,10 +1,9 @@
 ghost use Rattle.std.specs.Prelude.{◌≡◌, ◌+◌, ◌^◌, ◌<◌, ◌++◌, ◌∷◌, [], length, flat_map};
 ghost use Rattle.std.specs.Prelude.{IfOk, OnOk, IsOkAnd};
 ghost use Rattle.std.specs.List.{range_with_len};
-ghost use Rattle.jm_form.specs.Overlap.{ranges_of};
 ghost use Rattle.jm_valid.specs.Parts.{part_slots, slots_from, ContentsAt, Joins};
 ghost use Rattle.jm_valid.specs.Ranges.{ranges_with_bytes};
-ghost use Rattle.jm_valid.specs.Sections.{entries_in, IsSound};
+ghost use Rattle.jm_valid.specs.Sections.{entries_in, ranges_in, IsSound};
 
 use crate::row_names::Names;
 use crate::sections::Sections;
@@ -61,10 +60,11 @@ fn contents_of_slots(
     let end = first.saturating_add(most).min(names.sections.header.length);
     for slot in first..end.max(first) {
         if let Some(row) = entry_row::<Brand>(names, slot, Blank::new(1)) {
+            let stored = names.sections.compression.judged(&row);
             let range = Range {
-                start: row.offset,
+                start: stored.offset,
                 slot,
-                end: row.offset + row.size,
+                end: stored.offset + stored.size,
             };
             add_entry(&mut contents, range)?;
         }
@@ -107,8 +107,8 @@ pub fn contents_of<R: Threads + Sync, G: Gate + Sync>(
 ) -> Result<Contents, NoMemory>
     requires { IsSound sections.now }
     ensures count { IfOk result (λ c. c.count ≡ length (entries_in sections.now)) }
-    ensures ranges { IfOk result (λ c. c.ranges.items
-        ≡ ranges_with_bytes (ranges_of (entries_in sections.now))) }
+    ensures ranges { IfOk result
+        (λ c. c.ranges.items ≡ ranges_with_bytes (ranges_in sections.now)) }
 {
     let alloc = workers.alloc;
     let names = Names::of(alloc, sections)?;
@@ -129,8 +129,8 @@ pub fn contents_of<R: Threads + Sync, G: Gate + Sync>(
 pub fn contents_alone(alloc: Global, sections: &Sections) -> Result<Contents, NoMemory>
     requires { IsSound sections.now }
     ensures count { IfOk result (λ c. c.count ≡ length (entries_in sections.now)) }
-    ensures ranges { IfOk result (λ c. c.ranges.items
-        ≡ ranges_with_bytes (ranges_of (entries_in sections.now))) }
+    ensures ranges { IfOk result
+        (λ c. c.ranges.items ≡ ranges_with_bytes (ranges_in sections.now)) }
 {
     let names = Names::of(alloc, sections)?;
     contents_of_slots(alloc, &names, 0, sections.header.length)

@@ -1,6 +1,7 @@
 ghost use Rattle.std.specs.Prelude.{◌≡◌, ◌≤◌, ℕ, List, length, Ok};
 ghost use Rattle.jm_form.specs.Head.{header_of, IsFileOf};
 ghost use Rattle.jm_form.specs.Validity.{ValidAs};
+ghost use Rattle.jm_form.specs.declared.rows.Compression.TheVariants.{Refused};
 ghost use Rattle.jm_valid.specs.Opened.{IsIndexOf};
 
 use jm_bytes::Buf;
@@ -17,19 +18,20 @@ pub struct Index<'a> {
 }
 
 impl<'a> Model for Index<'a> {
+    ghost use Rattle.jm_form.specs.declared.rows.Compression.TheVariants.{Refused};
     ghost use Rattle.jm_valid.specs.Opened.{Front, IsIndexOf};
 
     ghost Value = { Front };
 
     ghost view = { λ a. record { bytes = a.buf; length = a.length } };
 
-    ghost invariant = { λ a. IsIndexOf a.buf a.length a.header };
+    ghost invariant = { λ a. IsIndexOf Refused a.buf a.length a.header };
 }
 
 impl<'a> Index<'a> {
     /// The index of files that were found to be valid.
     pub(crate) fn checked(front: &'a [u8], header: Header, length: u64) -> Index<'a>
-        requires { IsIndexOf front.now length header }
+        requires { IsIndexOf Refused front.now length header }
         ensures { result ≡ record { bytes = front.now; length = length } }
     {
         Index {

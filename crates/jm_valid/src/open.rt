@@ -1,12 +1,12 @@
 ghost use Rattle.std.specs.Prelude.{◌≡◌, ◌<◌, ℕ, List, length, None, IfOk, IfErr, OnOk};
+ghost use Rattle.jm_form.specs.Damages.{damage_by};
 ghost use Rattle.jm_form.specs.Head.{HoldsIndex, IsFileOf};
-ghost use Rattle.jm_form.specs.Overlap.{ranges_of};
-ghost use Rattle.jm_form.specs.Validity.{Valid};
+ghost use Rattle.jm_form.specs.Validity.{Stored, Valid};
 ghost use Rattle.jm_halves.specs.First.{IsFirstIn};
-ghost use Rattle.jm_valid.specs.Opened.{IsDamageOf, Reports};
+ghost use Rattle.jm_valid.specs.Opened.{IsDamageOf, IsIndexOf, IsStoredDamageOf, Reports};
 ghost use Rattle.jm_valid.specs.Ranges.{ranges_with_bytes};
 ghost use Rattle.jm_valid.specs.Sections.{AreSectionsOf, body_damage_in, entries_in};
-ghost use Rattle.jm_valid.specs.Sections.{slot_fault_in, IsSound};
+ghost use Rattle.jm_valid.specs.Sections.{ranges_in, slot_fault_in, IsSound};
 
 use crate::entries::{Contents, contents_alone, contents_of};
 use crate::image::Image;
@@ -15,17 +15,24 @@ use crate::open_error::OpenError;
 use crate::overlap::first_overlap;
 use crate::sections::{Sections, ended_texts};
 use crate::slots::slot_fault;
-use jm_form::{Damage, read_header_of};
+use crate::stored::StoredIndex;
+use jm_form::{Compression, Damage, Header, read_header_of};
 use jm_halves::{Gate, Workers, first_between};
 use std::alloc::Global;
 use std::thread::Threads;
 
 /// The sections of the files of this length that begin with these bytes, or the fault of their
 /// header.
-fn sections_of<'a>(front: &'a [u8], length: u64) -> Result<Sections<'a>, OpenError>
+fn sections_of<'a>(
+    front: &'a [u8],
+    length: u64,
+    compression: Compression,
+) -> Result<Sections<'a>, OpenError>
     requires { HoldsIndex front.now length }
     ensures sections { IfOk result (AreSectionsOf front.now length) }
-    ensures damaged { (b : List ℕ) → IsFileOf front.now length b → IfErr result (IsDamageOf b) }
+    ensures compression { IfOk result (λ s. s.compression ≡ compression) }
+    ensures damaged { (b : List ℕ) → IsFileOf front.now length b
+        → IfErr result (Reports (damage_by compression b)) }
 {
     match read_header_of(front, length) {
         Ok(header) => {
@@ -34,6 +41,7 @@ fn sections_of<'a>(front: &'a [u8], length: u64) -> Result<Sections<'a>, OpenErr
             Ok(Sections {
                 bytes: front,
                 header,
+                compression,
                 texts: ended_texts(strings),
                 size: length - header.contents_place() as u64,
             })
@@ -60,8 +68,7 @@ fn check_slots(sections: &Sections, fault: Option<(usize, Damage)>) -> Result<()
 fn check_entries(sections: &Sections, mut contents: Contents) -> Result<(), OpenError>
     requires slots { IsSound sections.now }
     requires count { contents.count ≡ length (entries_in sections.now) }
-    requires ranges { contents.ranges.items
-        ≡ ranges_with_bytes (ranges_of (entries_in sections.now)) }
+    requires ranges { contents.ranges.items ≡ ranges_with_bytes (ranges_in sections.now) }
     ensures sound { OnOk result (body_damage_in sections.now ≡ None) }
     ensures damaged { IfErr result (Reports (body_damage_in sections.now)) }
 {
@@ -102,26 +109,43 @@ fn check_body_alone(alloc: Global, sections: &Sections) -> Result<(), OpenError>
     check_entries(sections, contents_alone(alloc, sections)?)
 }
 
-/// The index of the files of this length that begin with these bytes, which have these sections, or
-/// what was found behind the header.
-fn index_of<'a>(
-    front: &'a [u8],
+/// The header of the files of this length that begin with these bytes, which have these sections, or
+/// what was found behind it.
+fn checked_header(
+    front: &[u8],
     length: u64,
     sections: &Sections,
     checked: Result<(), OpenError>,
-) -> Result<Index<'a>, OpenError>
+) -> Result<Header, OpenError>
     requires holds { HoldsIndex front.now length }
     requires sections { AreSectionsOf front.now length sections.now }
     requires sound { OnOk checked (body_damage_in sections.now ≡ None) }
     requires damaged { IfErr checked (Reports (body_damage_in sections.now)) }
-    ensures same { IfOk result (λ index. index ≡ record { bytes = front.now; length = length }) }
-    ensures valid { (b : List ℕ) → IsFileOf front.now length b → OnOk result (Valid b) }
-    ensures damaged { (b : List ℕ) → IsFileOf front.now length b → IfErr result (IsDamageOf b) }
+    ensures index { IfOk result (IsIndexOf sections.now.compression front.now length) }
+    ensures damaged { (b : List ℕ) → IsFileOf front.now length b
+        → IfErr result (Reports (damage_by sections.now.compression b)) }
 {
     match checked {
-        Ok(()) => Ok(Index::checked(front, sections.header, length)),
+        Ok(()) => Ok(sections.header),
         Err(error) => Err(error),
     }
+}
+
+/// The header of the files of this length that begin with these bytes, if nothing is wrong with
+/// them, or their first damage.
+fn check_index<R: Threads + Sync, G: Gate + Sync>(
+    workers: &Workers<R, G>,
+    front: &[u8],
+    length: u64,
+    compression: Compression,
+) -> Result<Header, OpenError>
+    requires { HoldsIndex front.now length }
+    ensures index { IfOk result (IsIndexOf compression front.now length) }
+    ensures damaged { (b : List ℕ) → IsFileOf front.now length b
+        → IfErr result (Reports (damage_by compression b)) }
+{
+    let sections = sections_of(front, length, compression)?;
+    checked_header(front, length, &sections, check_body(workers, &sections))
 }
 
 impl<'a> Index<'a> {
@@ -142,8 +166,28 @@ impl<'a> Index<'a> {
         ensures damaged { (b : List ℕ) → IsFileOf front.now length b
             → IfErr result (IsDamageOf b) }
     {
-        let sections = sections_of(front, length)?;
-        index_of(front, length, &sections, check_body(workers, &sections))
+        let header = check_index(workers, front, length, Compression::Refused)?;
+        Ok(Index::checked(front, header, length))
+    }
+}
+
+impl<'a> StoredIndex<'a> {
+    /// The same of an image whose contents may be compressed: its index, or its first damage, where
+    /// each row is read as stored.
+    pub fn open<R: Threads + Sync, G: Gate + Sync>(
+        workers: &Workers<R, G>,
+        front: &'a [u8],
+        length: u64,
+    ) -> Result<StoredIndex<'a>, OpenError>
+        requires { HoldsIndex front.now length }
+        ensures same { IfOk result
+            (λ index. index ≡ record { bytes = front.now; length = length }) }
+        ensures sound { (b : List ℕ) → IsFileOf front.now length b → OnOk result (Stored b) }
+        ensures damaged { (b : List ℕ) → IsFileOf front.now length b
+            → IfErr result (IsStoredDamageOf b) }
+    {
+        let header = check_index(workers, front, length, Compression::Allowed)?;
+        Ok(StoredIndex::checked(front, header, length))
     }
 }
 
@@ -176,10 +220,10 @@ pub fn open_alone<'a>(alloc: Global, bytes: &'a [u8]) -> Result<Image<'a>, OpenE
     ensures damaged { IfErr result (IsDamageOf bytes.now) }
 {
     let length = bytes.len() as u64;
-    let sections = sections_of(bytes, length)?;
+    let sections = sections_of(bytes, length, Compression::Refused)?;
     let checked = check_body_alone(alloc, &sections);
-    let index = index_of(bytes, length, &sections, checked)?;
-    Ok(Image::whole(index))
+    let header = checked_header(bytes, length, &sections, checked)?;
+    Ok(Image::whole(Index::checked(bytes, header, length)))
 }
 
 /// What `Image::open` answers by that many jobs of a runtime.

@@ -4,7 +4,7 @@ ghost use Rattle.jm_form.specs.Places as places;
 ghost use Rattle.jm_form.specs.Texts.{text_ends};
 ghost use Rattle.jm_valid.specs.Texts.{ended_texts};
 
-use jm_form::Header;
+use jm_form::{Compression, Header};
 use memchr::memrchr;
 
 /// The first bytes of an image, which hold its index and whose header was read, with what the
@@ -13,6 +13,8 @@ use memchr::memrchr;
 pub struct Sections<'a> {
     pub bytes: &'a [u8],
     pub header: Header,
+    /// Whether the contents may be compressed.
+    pub compression: Compression,
     /// The front of the strings up to and with their last zero byte; the texts that end begin in
     /// it.
     pub texts: &'a [u8],

@@ -8,10 +8,12 @@ use jm_form::{Damage, Row, SlotRow, is_led_to, row_of_slot};
 use std::marker::Brand;
 use std::sync::ledger::{Blank, Ledger};
 
-/// The first fault of a slot with this row, which isn't blank.
+/// The first fault of a slot with this row, which isn't blank; it is judged as it is stored where
+/// contents may be compressed.
 fn row_fault(sections: &Sections, slot: u32, row: &Row) -> Option<Damage>
     ensures { result ≡ row_fault_in sections.now slot row.now }
 {
+    let row = sections.compression.judged(row);
     if row.packed != 0 {
         return Some(Damage::Compressed(slot));
     }

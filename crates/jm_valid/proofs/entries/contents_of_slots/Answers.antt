@@ -2,8 +2,10 @@ use Rattle.std.proofs.Common.{◌≡◌, ◌+◌, ◌-◌, ◌<◌, ◌++◌, �
 use Rattle.std.proofs.lemmas.List.{length_push}
 use Rattle.std.proofs.lemmas.List.FromFn.{length-range_with_len}
 use Rattle.std.specs.List.{range_with_len}
+use Rattle.jm_form.specs.declared.ranges.Range.{Range}
+use Rattle.jm_form.specs.declared.rows.Row.{Row}
 use Rattle.jm_form.specs.Entries.{entry_of}
-use Rattle.jm_form.specs.Overlap.{range_of, ranges_of}
+use Rattle.jm_form.specs.Overlap.{range_by, ranges_by}
 use Rattle.jm_form.proofs.SlotLaws.{sound_row_with}
 use Rattle.jm_valid.specs.Parts.{ContentsAt, entries_at}
 use Rattle.jm_valid.specs.Ranges.{ranges_with_bytes}
@@ -28,11 +30,12 @@ overflow_add-range c =
     let s = c.args.names.now.sections in
     let there = row_reached s c.loop-slot.slot c.in-Some.row (sym c.in-Some.ensures) in
     let below : c.loop-slot.slot < s.header.length = omega arith in
-    let sound = sound_row_with s.bytes.now s.header s.size c.loop-slot.slot c.in-Some.row (c.requires c.loop-slot.slot below)
-    there.0 in
+    let sound = sound_row_with s.compression s.bytes.now s.header s.size c.loop-slot.slot c.in-Some.row
+    (c.requires c.loop-slot.slot below) there.0 in
+    let same = ap (λ (r : Row). r.offset + r.size) c.judged-stored.ensures in
     let fits = sound.within in
     let size = s.size_fits in
-    omega (arith, fits, size)
+    omega (arith, same, fits, size)
 
 pub loop-slot-preserved : goal.loop-slot-preserved
 loop-slot-preserved c =
@@ -48,18 +51,21 @@ loop-slot-preserved c =
           let more = ap (entries_at s) next ∙ entry_more s slots i row (sym w.in-Some.ensures) in
           let done = w.in_ok-add_entry.ensures in
           let same = w.contents-is in
+          let range = ap (λ (r : Row). record { start = r.offset; slot = i; end = r.offset + r.size }) w.judged-stored.ensures in
           record {
             count = ap (λ x. x.count) same ∙ done.count ∙ ap (λ n. n + 1) c.loop-slot.invariant.count
                 ∙ sym (ap length more ∙ length_push before e);
-            ranges = ap (λ x. x.ranges.items) same ∙ done.ranges ∙ ap (λ rs. rs ++ ranges_with_bytes (range_of e ∷ []))
-                c.loop-slot.invariant.ranges ∙ sym (ap (λ es. ranges_with_bytes (ranges_of es)) more ∙ ranges_more before e);
+            ranges = ap (λ x. x.ranges.items) same ∙ done.ranges
+                ∙ ap (λ (r : Range). c.loop-slot.contents.ranges.items ++ ranges_with_bytes (r ∷ [])) range
+                ∙ ap (λ rs. rs ++ ranges_with_bytes (range_by s.compression e ∷ []))
+                c.loop-slot.invariant.ranges ∙ sym (ap (λ es. ranges_with_bytes (ranges_by s.compression es)) more ∙ ranges_more s.compression before e);
           }
       | in_default w ↦
           let none = ap (entries_at s) next ∙ entry_same s slots i (sym w.in_default.ensures) in
           let same = w.contents-is in
           record {
             count = ap (λ x. x.count) same ∙ c.loop-slot.invariant.count ∙ sym (ap length none);
-            ranges = ap (λ x. x.ranges.items) same ∙ c.loop-slot.invariant.ranges ∙ sym (ap (λ es. ranges_with_bytes (ranges_of es)) none);
+            ranges = ap (λ x. x.ranges.items) same ∙ c.loop-slot.invariant.ranges ∙ sym (ap (λ es. ranges_with_bytes (ranges_by s.compression es)) none);
           }
     ]
 
