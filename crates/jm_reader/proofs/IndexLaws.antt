@@ -11,19 +11,22 @@ use Rattle.std.specs.Prelude.{Contains, IfSome}
 use Rattle.std.specs.Str.{bytes_eq}
 use Rattle.jm_form.specs.declared.container.Header.{Header}
 use Rattle.jm_form.specs.declared.container.HeaderFault.{HeaderFault}
+use Rattle.jm_form.specs.declared.rows.Compression.{Compression}
+use Rattle.jm_form.specs.declared.rows.Compression.TheVariants.{Allowed, Refused}
 use Rattle.jm_form.specs.declared.rows.Row.{Row}
 use Rattle.jm_form.specs.Entries.{Entry, content_of, entries, indexed, name_of, row_at, texts_end}
 use Rattle.jm_form.specs.Head.{header_of, index_length, IsFileOf}
 use Rattle.jm_form.specs.Places.{contents, contents_size, strings}
+use Rattle.jm_form.specs.Rows.{as_stored, judged}
 use Rattle.jm_form.specs.Table.{probe}
-use Rattle.jm_form.specs.Validity.{look, SoundRow, SoundRowWith, ValidAs}
+use Rattle.jm_form.specs.Validity.{look, SoundAs, SoundRow, SoundRowWith, ValidAs}
 use Rattle.jm_form.proofs.HeadLaws.{header_fits}
 use Rattle.jm_form.proofs.EntryLaws.{entry_from}
 use Rattle.jm_form.proofs.LocalityLaws.{same_entries, same_index, same_probe, same_row, SameIndex, whole_file}
 use Rattle.jm_form.proofs.LookLaws.{look_blank, look_found, look_nowhere, look_other, look_row, probe_within}
-use Rattle.jm_form.proofs.SlotLaws.{sound_row, sound_texts}
+use Rattle.jm_form.proofs.SlotLaws.{sound_row, sound_row_with, sound_texts_with}
 use Rattle.jm_valid.specs.Opened.{Front}
-use Rattle.jm_reader.specs.Listing.{IsIndex, entry_listed, listed, listed_from}
+use Rattle.jm_reader.specs.Listing.{IsIndexBy, entry_listed, listed, listed_from}
 use Rattle.jm_reader.specs.Walk.{entries_in, entries_of, entries_with}
 use Rattle.jm_reader.specs.Look.{head, if_named, row_led, row_of_name, SoundIn, TextsEnd}
 use Rattle.jm_bytes.proofs.Members.{all_from_contains}
@@ -32,8 +35,13 @@ use Rattle.jm_reader.proofs.HeadLaws.{head_is, head_valid}
 -- Images
 
 -- the texts of the rows of a valid image end
-pub texts_of_valid : (b : List ℕ) (h : Header) → ValidAs b h → TextsEnd b h
-texts_of_valid b h valid slot row below there = sound_texts b h row (sound_row b h slot row (valid.slots slot below) there)
+pub texts_of_valid : (c : Compression) (b : List ℕ) (h : Header) → SoundAs c b h → TextsEnd b h
+texts_of_valid Refused b h valid slot row below there =
+    let size = length (contents b h) in
+    sound_texts_with (strings b h) size row (sound_row_with Refused b h size slot row (valid.slots slot below) there)
+texts_of_valid Allowed b h valid slot row below there =
+    let size = length (contents b h) in
+    sound_texts_with (strings b h) size (as_stored row) (sound_row_with Allowed b h size slot row (valid.slots slot below) there)
 
 different : (b : Bool) → b ≡ false → b ≡ true → ⊥
 different b no_answer answer = cc
@@ -132,16 +140,36 @@ module _ (f : List ℕ) (size : ℕ) (b : List ℕ) (h : Header) (file : IsFileO
   same_sound row sound = subst (λ s. SoundRowWith s (contents_size size h) row) (sym same.strings)
       (subst (λ n. SoundRowWith (strings b h) n row) same_size sound)
 
--- An index, by which each file that begins so is valid
+-- An index, by which each file that begins so is valid, its contents compressed or not
 
-module _ (f : List ℕ) (size : ℕ) (h : Header) (read : header_of f ≡ Ok h) (valid : (b : List ℕ) → IsFileOf f size b → ValidAs b h) where
+module _ (c : Compression) (f : List ℕ) (size : ℕ) (h : Header) (read : header_of f ≡ Ok h)
+    (valid : (b : List ℕ) → IsFileOf f size b → SoundAs c b h) where
   -- the texts of its rows end in its strings, if there is such a file
-  pub texts_end_by : (b : List ℕ) → IsFileOf f size b → TextsEnd f h
-  texts_end_by b file = same_texts_end f size b h file (header_fits f h read) (texts_of_valid b h (valid b file))
+  texts_end_by : (b : List ℕ) → IsFileOf f size b → TextsEnd f h
+  texts_end_by b file = same_texts_end f size b h file (header_fits f h read) (texts_of_valid c b h (valid b file))
 
   pub front_texts_end : length f ≤ size → TextsEnd f h
   front_texts_end within = texts_end_by (file_with f size) (file_begins f size within)
 
+  -- and its entries are listed as each file's
+  pub listed_same : (b : List ℕ) → IsFileOf f size b → listed_from f h 0 ≡ map listed (entries_of b)
+  listed_same b file =
+      let all : h.length - 0 ≡ h.length = omega arith in
+      let index = same_index f size b h file (header_fits f h read) in
+      ap (λ (n : ℕ). map listed (entries_in f h (range_with_len 0 n))) all
+      ∙ by_index (entries f h) ∙ ap (map listed_by) (same_entries f b h index) ∙ sym (by_index (entries b h))
+      ∙ ap (λ r. map listed (entries_with b r)) (sym (valid b file).header)
+    where
+      listed_by : ℕ × Row × List ℕ → ℕ × List ℕ × Row
+      listed_by x = (x.0, x.2, x.1)
+
+      by_index : (es : List Entry) → map listed es ≡ map listed_by (map indexed es)
+      by_index [] = refl
+      by_index (e ∷ es) = ap (λ rest. listed e ∷ rest) (by_index es)
+
+-- With no content compressed
+
+module _ (f : List ℕ) (size : ℕ) (h : Header) (read : header_of f ≡ Ok h) (valid : (b : List ℕ) → IsFileOf f size b → ValidAs b h) where
   -- a row that it says of a name is the look-up's in each file
   pub front_found : (name : List ℕ) (result : Option Row) → result ≡ row_of_name f h name → (b : List ℕ) → IsFileOf f size b
       → IsRowFound b name result
@@ -165,22 +193,6 @@ module _ (f : List ℕ) (size : ℕ) (h : Header) (read : header_of f ≡ Ok h) 
       go (Some row) sound = subst (λ g. SoundRowWith (strings f g) (contents_size size g) row) (sym (head_is f h read))
           (same_sound f size b h file (header_fits f h read) row
           (subst (λ g. SoundRow b g row) (head_is b h (valid b file).header) sound))
-
-  -- and its entries are listed as each file's
-  pub listed_same : (b : List ℕ) → IsFileOf f size b → listed_from f h 0 ≡ map listed (entries_of b)
-  listed_same b file =
-      let all : h.length - 0 ≡ h.length = omega arith in
-      let index = same_index f size b h file (header_fits f h read) in
-      ap (λ (n : ℕ). map listed (entries_in f h (range_with_len 0 n))) all
-      ∙ by_index (entries f h) ∙ ap (map listed_by) (same_entries f b h index) ∙ sym (by_index (entries b h))
-      ∙ ap (λ r. map listed (entries_with b r)) (sym (valid b file).header)
-    where
-      listed_by : ℕ × Row × List ℕ → ℕ × List ℕ × Row
-      listed_by x = (x.0, x.2, x.1)
-
-      by_index : (es : List Entry) → map listed es ≡ map listed_by (map indexed es)
-      by_index [] = refl
-      by_index (e ∷ es) = ap (λ rest. listed e ∷ rest) (by_index es)
 
 -- The index that an image is
 
@@ -239,17 +251,17 @@ held_sound b h slot None valid below there = tt
 held_sound b h slot (Some held) valid below there =
     subst (λ g. SoundRow b g held.0) (sym (head_is b h valid.header)) (sound_row b h slot held.0 (valid.slots slot below) there)
 
--- a row of a slot of an index is sound in its files
-pub listed_sound : (f : List ℕ) (size : ℕ) (h : Header) (slot : ℕ) (row : Row) → IsIndex f size h → slot < h.length
-    → row_at f h slot ≡ Some row → SoundIn (record { bytes = f; length = size }) row
-listed_sound f size h slot row index below there =
+-- a row of a slot of an index is sound in its files, as it is judged
+pub listed_sound : (c : Compression) (f : List ℕ) (size : ℕ) (h : Header) (slot : ℕ) (row : Row) → IsIndexBy c f size h
+    → slot < h.length → row_at f h slot ≡ Some row → SoundIn (record { bytes = f; length = size }) (judged c row)
+listed_sound c f size h slot row index below there =
     let b = file_with f size in
     let file = file_begins f size index.within in
     let fits = header_fits f h index.header in
     let valid = index.valid b file in
     let own = sym (same_row f b h (same_index f size b h file fits) slot below) ∙ there in
-    subst (λ g. SoundRowWith (strings f g) (contents_size size g) row) (sym (head_is f h index.header))
-    (same_sound f size b h file fits row (sound_row b h slot row (valid.slots slot below) own))
+    subst (λ g. SoundRowWith (strings f g) (contents_size size g) (judged c row)) (sym (head_is f h index.header))
+    (same_sound f size b h file fits (judged c row) (sound_row_with c b h (length (contents b h)) slot row (valid.slots slot below) own))
 
 -- Contents
 

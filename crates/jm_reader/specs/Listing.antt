@@ -1,11 +1,13 @@
 -- The entries of an image as its index alone lists them (jimage 1.0).
 use Rattle.std.specs.Prelude.{ℕ, ◌≡◌, ◌≤◌, List, length, map, Ok}
 use Rattle.jm_form.specs.declared.container.Header.{Header}
+use Rattle.jm_form.specs.declared.rows.Compression.{Compression}
+use Rattle.jm_form.specs.declared.rows.Compression.TheVariants.{Refused}
 use Rattle.jm_form.specs.declared.rows.Row.{Row}
 use Rattle.jm_form.specs.Entries.{Entry, content_of}
 use Rattle.jm_form.specs.Head.{header_of, IsFileOf}
 use Rattle.jm_form.specs.Places.{contents}
-use Rattle.jm_form.specs.Validity.{ValidAs}
+use Rattle.jm_form.specs.Validity.{SoundAs}
 use Rattle.jm_reader.specs.declared.listing.Listed.{Listed}
 use Rattle.jm_reader.specs.Look.{head}
 use Rattle.jm_reader.specs.Walk.{entries_from}
@@ -38,8 +40,12 @@ pub record ToList : Type 0 where
   pub rest : List (ℕ × List ℕ × Row)
 
 -- the bytes are no more than a file of this size has, and have this header, with which each such
--- file that begins with them is valid
-pub record IsIndex (front : List ℕ) (size : ℕ) (h : Header) : Type 0 where
+-- file that begins with them is valid, its contents compressed or not
+pub record IsIndexBy (c : Compression) (front : List ℕ) (size : ℕ) (h : Header) : Type 0 where
   pub within : length front ≤ size
   pub header : header_of front ≡ Ok h
-  pub valid : (b : List ℕ) → IsFileOf front size b → ValidAs b h
+  pub valid : (b : List ℕ) → IsFileOf front size b → SoundAs c b h
+
+-- the same with no content compressed
+abbrev pub IsIndex : List ℕ → ℕ → Header → Type 0
+IsIndex front size h = IsIndexBy Refused front size h

@@ -10,6 +10,7 @@ mod marks;
 mod name_bytes;
 mod name_view;
 mod order;
+mod stored;
 mod table;
 mod texts;
 
@@ -19,4 +20,5 @@ pub use listing::{Listed, Listing, list};
 pub use look_up::{Found, find, find_row, find_row_in};
 pub use name_bytes::NameBytes;
 pub use name_view::NameView;
+pub use stored::{StoredListing, list_stored, place_of_stored};
 pub use texts::place_of;

@@ -50,7 +50,7 @@ impl<'a> Model for Listing<'a> {
 
 /// What bytes that hold an image's index say of the entry of the least slot that holds one, of the
 /// slots from `start` on.
-fn next_listed<'a, R: Ledger>(
+pub fn next_listed<'a, R: Ledger>(
     buf: &Buf<'a>,
     header: &Header,
     start: u32,

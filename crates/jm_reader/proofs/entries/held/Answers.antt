@@ -2,13 +2,14 @@ use Rattle.std.proofs.Common.{◌<◌, ℕ, List, subst, sym}
 use Rattle.jm_form.specs.declared.container.Header.{Header}
 use Rattle.jm_reader.specs.Look.{TextsEnd}
 use Rattle.jm_reader.proofs.HeadLaws.{head_is}
+use Rattle.jm_form.specs.declared.rows.Compression.TheVariants.{Refused}
 use Rattle.jm_reader.proofs.IndexLaws.{held_sound, texts_of_valid}
 use Rattle.jm_reader.proofs.entries.held.Goals as goal
 
 pub held_by-requires-clause-ends : goal.held_by-requires-clause-ends
 held_by-requires-clause-ends g c =
     subst (λ (l : List ℕ). TextsEnd l c.header.result) (sym c.buf.ensures)
-    (texts_of_valid c.args.image.now c.header.result c.header.ensures)
+    (texts_of_valid Refused c.args.image.now c.header.result c.header.ensures)
 
 pub returns-clause-sound : goal.returns-clause-sound
 returns-clause-sound g c =

@@ -1,5 +1,6 @@
 use Rattle.std.proofs.Common.{subst, sym}
 use Rattle.jm_reader.specs.Look.{TextsEnd}
+use Rattle.jm_form.specs.declared.rows.Compression.TheVariants.{Refused}
 use Rattle.jm_reader.proofs.IndexLaws.{front_found, front_sound, front_texts_end}
 use Rattle.jm_reader.proofs.look_up.find_row_in.Goals as goal
 
@@ -8,7 +9,7 @@ row_of_name-requires-clause-ends g c =
     let v = c.args.index.now in
     let header = c.header.ensures in
     subst (λ l. TextsEnd l c.header.result) (sym c.buf.ensures)
-    (front_texts_end v.bytes v.length c.header.result header.front header.valid header.within)
+    (front_texts_end Refused v.bytes v.length c.header.result header.front header.valid header.within)
 
 pub returns-clause-found : goal.returns-clause-found
 returns-clause-found g c b file =
