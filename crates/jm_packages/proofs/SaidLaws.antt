@@ -27,9 +27,9 @@ use Rattle.jm_packages.proofs.PackagedLaws.{room, slot_after, name_there, same_b
 -- The numbers of the constants
 
 -- a Package constant that holds the number of a text stands for it
-package_there : (pool : List SlotData) (index number : ℕ) (text : List ℕ) → number < 2 ^ 16 → slot_at pool index
-    ≡ Some (Constant 20 (u2 number)) → slot_at pool number ≡ Some (utf8 text) → named_at pool Package index ≡ Some text
-package_there pool index number text below is holds =
+package_there : (pool : List SlotData) (at number : ℕ) (text : List ℕ) → number < 2 ^ 16 → slot_at pool at
+    ≡ Some (Constant 20 (u2 number)) → slot_at pool number ≡ Some (utf8 text) → named_at pool Package at ≡ Some text
+package_there pool at number text below is holds =
     ap (option_and_then (named_by pool Package)) is
     ∙ ap (λ (n : ℕ). utf8_at pool n) (from_be_bytes-to_be_bytes_2 number below) ∙ ap (option_and_then utf8_of) holds
 
