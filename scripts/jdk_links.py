@@ -7,7 +7,7 @@ import subprocess
 import tempfile
 import time
 
-from preamble import BUILT, is_built, jdk, judge, say, skip
+from preamble import PROGRAM, is_built, jdk, judge, say, skip
 
 STRIP, COMPACT = "--strip-java-debug-attributes", "--compact-pool"
 # The words with which a link takes the classes of the JDK, once its folders are made.
@@ -35,7 +35,7 @@ def run(*words):
 
 def link(source, modules, output, *words):
     """What a link says, which must end well, and what it used."""
-    status, out, err, *used = run(BUILT, "link", *source, "--add-modules", modules, "--output", output, *release, *words)
+    status, out, err, *used = run(PROGRAM, "link", *source, "--add-modules", modules, "--output", output, *release, *words)
     judge((status, err) == (0, ""), f"link of {output.name} ends with {status}: {err[:300].rstrip()}")
     return out, used
 

@@ -8,7 +8,8 @@ import sys
 
 SCRIPTS = pathlib.Path(__file__).resolve().parent
 TOP = SCRIPTS.parent
-BUILT = TOP / "crates/jm_tool/out/jm_tool"
+# The program that is tried: `$JM_TOOL`, or the built one.
+PROGRAM = pathlib.Path(os.environ.get("JM_TOOL") or TOP / "crates/jm_tool/out/jm_tool").resolve()
 NAME = pathlib.Path(sys.argv[0]).name
 judged = {True: 0, False: 0}
 
@@ -45,15 +46,15 @@ def jdk(words):
 
 
 def is_built():
-    """Whether there is a program; it is proved and built first, where that isn't done yet."""
-    return subprocess.run([SCRIPTS / "jm_tool", "--version"], stdout=subprocess.DEVNULL).returncode == 0
+    """Whether there is a program: `$JM_TOOL`, or the built one, which is proved and built first where that isn't done
+    yet."""
+    return bool(os.environ.get("JM_TOOL")) or subprocess.run([SCRIPTS / "jm_tool", "--version"], stdout=subprocess.DEVNULL).returncode == 0
 
 
 def find_program(path=None):
     """The program at this path, or without it `$JM_TOOL`, or the built one, which is proved and built first where that
     isn't done yet; ends with status 1 where that fails."""
-    path = path or os.environ.get("JM_TOOL")
     if not path and not is_built():
         say("the program isn't built")
         sys.exit(1)
-    return pathlib.Path(path or BUILT).resolve()
+    return pathlib.Path(path).resolve() if path else PROGRAM
