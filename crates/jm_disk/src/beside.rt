@@ -1,10 +1,9 @@
-//! What isn't finished yet: its name, its removal, and how it takes its place.
+//! What isn't finished yet: its name, whether it is still there, and its removal.
 use crate::file_error::{FileError, Reason};
 use crate::paths::{Node, stands_at};
 use std::alloc::Global;
 use std::fs;
 use std::fs::{File, TryLockError};
-use std::io::ErrorKind;
 use std::path::Path;
 use std::rt::Files;
 
@@ -48,25 +47,20 @@ pub fn path_beside(alloc: Global, due: &str, number: u32) -> Result<String, File
     Ok(format!(in alloc; "{front}{MARK}{number}")?)
 }
 
+/// That what was made at a path is there: another thing in its place is a fault. As long as it is
+/// open, nothing else has its numbers.
+pub fn confirm<R: Files>(rt: &R, own: &str, node: Node) -> Result<(), FileError> {
+    if stands_at(rt, own, node)? {
+        Ok(())
+    } else {
+        Err(FileError::from(Reason::Lost))
+    }
+}
+
 /// Removes the file at a path, if it has these numbers. The failure that made it useless is told,
 /// and none of this.
 pub fn remove_own<R: Files>(rt: &R, own: &str, node: Node) {
     if matches!(stands_at(rt, own, node), Ok(true)) {
         let _removed = fs::remove_file(rt, own).is_ok();
-    }
-}
-
-/// Waits until the names in a folder are on the disk. A folder that may not be read is passed over,
-/// and so is one on a disk that has no such call.
-pub fn flush_folder<R: Files<File = File>>(rt: &R, folder: &str) -> Result<(), FileError> {
-    let folder = match fs::open(rt, folder) {
-        Ok(folder) => folder,
-        Err(e) if e.kind() == ErrorKind::PermissionDenied => return Ok(()),
-        Err(e) => return Err(FileError::from(e)),
-    };
-    match folder.sync_all() {
-        Ok(()) => Ok(()),
-        Err(e) if matches!(e.kind(), ErrorKind::InvalidInput | ErrorKind::Unsupported) => Ok(()),
-        Err(e) => Err(FileError::from(e)),
     }
 }

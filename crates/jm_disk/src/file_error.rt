@@ -1,7 +1,7 @@
 //! What a call of the file system ended with in place of its answer.
 use jm_bytes::NoMemory;
 use jm_outside::SystemError;
-use std::alloc::{AllocError, AllocFailed, Global};
+use std::alloc::{AllocError, AllocFailed};
 use std::io::ErrorKind;
 use std::{fmt, io};
 
@@ -74,26 +74,15 @@ pub struct FileError {
 }
 
 impl FileError {
-    /// The same at a place of its own, unless it has one. Where no memory is found for the place it
-    /// stays without.
-    pub fn at(self, alloc: Global, place: &str) -> FileError {
+    /// The same at a place, if one is given and it has none of its own.
+    pub fn at(self, place: Option<String>) -> FileError {
         let FileError {
             reason,
             place: found,
         } = self;
         let place = match found {
             Some(found) => Some(found),
-            None => String::from_str(alloc, place).ok(),
-        };
-        FileError { reason, place }
-    }
-
-    /// The same of the file that was made for a path, unless it has a place of its own.
-    pub fn of(self, path: String) -> FileError {
-        let FileError { reason, place } = self;
-        let place = match place {
-            Some(place) => Some(place),
-            None => Some(path),
+            None => place,
         };
         FileError { reason, place }
     }

@@ -1,19 +1,20 @@
 ghost use Rattle.std.specs.Prelude.{◌≡◌, ◌&&◌, None, Ok, is_none, IsOk, IsTrue, IfOk, OnOk, IsErrOf};
 ghost use Rattle.jm_outside.specs.Outcome.{CountsFaults};
+ghost use Rattle.jm_disk.specs.Kept.{is_kept};
 
-use crate::beside::flush_folder;
 use crate::file_error::{FileError, Reason};
+use crate::flushing::{LastNamed, keep_named};
 use crate::folders::names_in;
 use crate::new_file::{NewFile, append_at, make};
 use crate::new_folder::NewFolder;
 use crate::parts::{ClosedFiles, PartedFile, open_after};
-use crate::paths::folder_of;
 use crate::reading::read_at;
 use jm_bytes::{List, Text};
 use jm_outside::{Handed, Shelf, ShelfError};
 use std::alloc::Global;
 use std::fs::File;
 use std::io::ErrorKind;
+use std::mem::replace;
 use std::rt::Files;
 use std::{io, str};
 
@@ -43,6 +44,7 @@ pub struct FileShelf<'a, R: Files<File = File> + AllocGlobal> {
     rt: &'a R,
     made_last: Option<NewFile>,
     folder: Option<NewFolder>,
+    last_named: LastNamed,
     parted: Option<PartedFile>,
     closed: ClosedFiles,
     handed: Handed,
@@ -68,6 +70,7 @@ impl<'a, R: Files<File = File> + AllocGlobal> FileShelf<'a, R> {
             rt,
             made_last: None,
             folder: None,
+            last_named: LastNamed::Nothing,
             parted: None,
             closed: ClosedFiles::new(rt.alloc()),
             handed: Handed::new(),
@@ -116,8 +119,8 @@ impl<'a, R: Files<File = File> + AllocGlobal> FileShelf<'a, R> {
             folder.keep(file);
             return Ok(());
         }
-        let answer = file.take_place(self.rt, false);
-        let _due = self.judge(b"", answer)?;
+        let answer = file.take_place(self.rt, None);
+        self.last_named = LastNamed::Unflushed(self.judge(b"", answer)?);
         Ok(())
     }
 
@@ -133,7 +136,11 @@ impl<'a, R: Files<File = File> + AllocGlobal> FileShelf<'a, R> {
         match self.folder.take() {
             Some(folder) => {
                 let answer = folder.take_place(self.rt);
-                let _due = self.judge(b"", answer)?;
+                let (due, last) = self.judge(b"", answer)?;
+                self.last_named = LastNamed::Unflushed(match last {
+                    Some(file) => file.path,
+                    None => due,
+                });
                 Ok(())
             }
             None => Ok(()),
@@ -148,7 +155,11 @@ impl<'a, R: Files<File = File> + AllocGlobal> FileShelf<'a, R> {
         ensures faults { CountsFaults self.old.faults self.new.faults (IsOk result)
             (IsErrOf result ShelfError.Failed) }
     {
-        if self.parted.as_ref().is_some_and(|file| file.is_for(path)) {
+        if self
+            .parted
+            .as_ref()
+            .is_some_and(|file| file.path.as_bytes() == path)
+        {
             return self.complete();
         }
         self.settle()?;
@@ -165,7 +176,11 @@ impl<'a, R: Files<File = File> + AllocGlobal> FileShelf<'a, R> {
         ensures handed { self.new.handed ≡ self.old.handed }
         ensures faults { self.new.faults ≡ self.old.faults }
     {
-        if self.parted.as_ref().is_some_and(|file| file.is_for(path)) {
+        if self
+            .parted
+            .as_ref()
+            .is_some_and(|file| file.path.as_bytes() == path)
+        {
             self.parted = None;
         }
         let _known = self.closed.remove(path);
@@ -215,8 +230,9 @@ impl<'a, R: Files<File = File> + AllocGlobal> Shelf for FileShelf<'a, R> {
     // Files below a folder that isn't finished are complete, but for the one that was made last.
     ghost whole = { λ shelf. is_none shelf.made_last };
 
-    // Both are gone where `finish` took them: it has the disk keep what was made last.
-    ghost durable = { λ shelf. is_none shelf.made_last && is_none shelf.folder };
+    // Nothing is unfinished, and who waited for the disk said so of the file that was made last.
+    ghost durable = { λ shelf. is_none shelf.made_last && is_none shelf.folder
+        && is_kept shelf.last_named };
 
     ghost handed = { λ shelf. shelf.handed };
 
@@ -325,7 +341,7 @@ impl<'a, R: Files<File = File> + AllocGlobal> Shelf for FileShelf<'a, R> {
     fn append(&mut self, _alloc: Global, path: &[u8], bytes: &[u8]) -> Result<(), ShelfError> {
         self.forget(path);
         let answer = match &mut self.made_last {
-            Some(file) if file.is_for(path) => file.append(bytes),
+            Some(file) if file.path.as_bytes() == path => file.append(bytes),
             _ => {
                 self.settle()?;
                 append_at(self.rt, path, bytes)
@@ -339,16 +355,19 @@ impl<'a, R: Files<File = File> + AllocGlobal> Shelf for FileShelf<'a, R> {
 
     /// Has the bytes of the file that was made last on the disk, has it take its name, or the
     /// folder below which it is, and has that on the disk. Where the bytes can't be had there, it
-    /// is removed, with that folder: the system tells of lost bytes only once.
+    /// is removed, with that folder: the system tells of lost bytes only once. A file that has its
+    /// name already, since a call looked at files, is opened and had on the disk under it.
     fn finish(&mut self, _alloc: Global) -> Result<(), ShelfError> {
         let answer = match (self.made_last.take(), self.folder.take()) {
             (file, Some(folder)) => folder.finish(self.rt, file),
-            (Some(file), None) => file.take_place(self.rt, true),
-            (None, None) => return Ok(()),
+            (Some(file), None) => file.finish(self.rt),
+            (None, None) => match replace(&mut self.last_named, LastNamed::Nothing) {
+                LastNamed::Unflushed(path) => keep_named(self.rt, path),
+                LastNamed::Nothing | LastNamed::Kept(_) => return Ok(()),
+            },
         };
-        let due = self.judge(b"", answer)?;
-        let flushed = flush_folder(self.rt, folder_of(due.as_str()));
-        self.judge(due.as_bytes(), flushed)
+        self.last_named = LastNamed::Kept(self.judge(b"", answer)?);
+        Ok(())
     }
 
     ghost sound = { λ _. tt };

@@ -38,40 +38,28 @@ pub fn names_in<R: Files<File = File> + AllocGlobal>(
         folders: Vec::new(alloc),
         entry_count: 0,
     };
-    if !list(rt, alloc, folder, "", &mut tree)? {
-        return Ok(List::new(alloc));
-    }
-    // Each further folder was met in one before it.
-    for _ in 0..MOST_ENTRIES {
+    tree.folders.push(String::new(alloc))?;
+    // Each folder but the first was met in one before it.
+    for _ in 0..=MOST_ENTRIES {
         let Some(inner) = tree.folders.pop() else {
             break;
         };
-        if !list(rt, alloc, folder, inner.as_str(), &mut tree)? {
-            let place = format!(in alloc; "{folder}/{inner}")?;
-            let place = place.as_str().trim_end_matches('/');
-            return Err(FileError::from(Reason::Vanished).at(alloc, place));
-        }
+        let path = format!(in alloc; "{folder}/{inner}")?;
+        let error = match list_at(rt, alloc, path.as_str(), inner.as_str(), &mut tree) {
+            Ok(true) => continue,
+            Ok(false) if inner.is_empty() => break,
+            Ok(false) => FileError::from(Reason::Vanished),
+            Err(e) => e,
+        };
+        let place = path.as_str().trim_end_matches('/');
+        return Err(error.at(String::from_str(alloc, place).ok()));
     }
     in_order(alloc, tree.names)
 }
 
-/// Lists one folder of a tree. Answers false where it isn't there.
-fn list<R: Files<File = File> + AllocGlobal>(
-    rt: &R,
-    alloc: Global,
-    root: &str,
-    inner: &str,
-    tree: &mut Tree,
-) -> Result<bool, FileError> {
-    let path = format!(in alloc; "{root}/{inner}")?;
-    match list_at(rt, alloc, path.as_str(), inner, tree) {
-        Ok(is_there) => Ok(is_there),
-        Err(e) => Err(e.at(alloc, path.as_str().trim_end_matches('/'))),
-    }
-}
-
-/// Lists the folder at a path. One that is removed meanwhile gives no more names and no error, so
-/// what stands at the path is looked at before, and after, as long as the folder is open.
+/// Lists the folder at a path. Answers false where it isn't there. One that is removed meanwhile
+/// gives no more names and no error, so what stands at the path is looked at before, and after, as
+/// long as the folder is open.
 fn list_at<R: Files<File = File> + AllocGlobal>(
     rt: &R,
     alloc: Global,
@@ -111,7 +99,10 @@ fn add_entries<'a, R: Files<File = File> + AllocGlobal>(
         let entry = entry?;
         let kind = match kind_at(rt, entry.path()) {
             Ok(kind) => kind,
-            Err(e) => return Err(e.at(alloc, entry.path().to_string_lossy())),
+            Err(e) => {
+                let place = entry.path().to_string_lossy();
+                return Err(e.at(String::from_str(alloc, place).ok()));
+            }
         };
         if tree.entry_count >= MOST_ENTRIES {
             return Err(FileError::from(Reason::TooMany));
@@ -119,7 +110,8 @@ fn add_entries<'a, R: Files<File = File> + AllocGlobal>(
         tree.entry_count += 1;
         let name = entry.file_name();
         if let Some(reason) = unfinished_at(rt, entry.path(), name) {
-            return Err(FileError::from(reason).at(alloc, entry.path().to_string_lossy()));
+            let place = entry.path().to_string_lossy();
+            return Err(FileError::from(reason).at(String::from_str(alloc, place).ok()));
         }
         match kind {
             Kind::File => tree.names.push(format!(in alloc; "{inner}{name}")?)?,

@@ -4,6 +4,7 @@
 mod beside;
 mod file_error;
 mod file_shelf;
+mod flushing;
 mod folders;
 mod new_file;
 mod new_folder;

@@ -1,8 +1,12 @@
 //! A new file, which isn't finished until it is complete.
-use crate::beside::{MOST_NAMES, flush_folder, path_beside, remove_own};
+ghost use Rattle.std.specs.Prelude.{◌≡◌, IfSome};
+ghost use Rattle.std.specs.Fd.{file_raw_fd};
+
+use crate::beside::{MOST_NAMES, confirm, path_beside, remove_own};
 use crate::file_error::{FileError, Reason};
+use crate::flushing::{Flushed, OnDisk, flush, flush_folder, keep_name};
 use crate::new_folder::{NewFolder, folder_for, make_folders};
-use crate::paths::{Node, Place, ends_in_name, is_file_at, node_of, place_at, stands_at, text_of};
+use crate::paths::{Node, Place, is_file_at, node_of, place_at, text_of};
 use crate::rights::{ask_leave, first_rights, give_rights};
 use std::fs::{File, OpenOptions};
 use std::io::{ErrorKind, Write};
@@ -18,7 +22,7 @@ const NEW_MODE: u32 = 0o666;
 #[derive(Drop)]
 pub struct NewFile {
     /// The path that it was made for.
-    path: String,
+    pub path: String,
     /// The path at which it stands.
     own: String,
     file: File,
@@ -39,13 +43,21 @@ struct Due {
 
 /// Makes an empty file for a path: below the folder that isn't finished, if one is given, which has
 /// to hold the path, and else beside the place. Where folders are missing, the highest of them is
-/// given from then on. What stands at the path stays as it is until the new file takes its name.
+/// given from then on. What stands at the path stays as it is until the new file takes its name. A
+/// path that ends in no name is a fault: no folder has it by itself.
 pub fn make<R: Files<File = File> + AllocGlobal>(
     rt: &R,
     folder: &mut Option<NewFolder>,
     path: &[u8],
 ) -> Result<NewFile, FileError> {
     let path = text_of(path)?;
+    let last = match path.rsplit_once('/') {
+        Some((_, last)) => last,
+        None => path,
+    };
+    if matches!(last, "" | "." | "..") {
+        return Err(FileError::from(Reason::NotFile));
+    }
     if folder.is_none() {
         match make_beside(rt, path) {
             Err(
@@ -70,9 +82,6 @@ fn make_below<R: Files<File = File> + AllocGlobal>(
     folder: &NewFolder,
     path: &str,
 ) -> Result<NewFile, FileError> {
-    if !ends_in_name(path) {
-        return Err(FileError::from(Reason::NotFile));
-    }
     let own = folder.inner_path(rt.alloc(), path)?;
     let path = String::from_str(rt.alloc(), path)?;
     let opened = match open_new(rt, own.as_str(), NEW_MODE) {
@@ -192,21 +201,33 @@ pub fn append_at<R: Files>(rt: &R, path: &[u8], bytes: &[u8]) -> Result<(), File
 }
 
 impl NewFile {
-    /// Whether the file was made for this path.
-    pub fn is_for(&self, path: &[u8]) -> bool {
-        self.path.as_bytes() == path
-    }
-
     /// Adds bytes to the end of the file.
     pub fn append(&mut self, bytes: &[u8]) -> Result<(), FileError> {
         self.file.write_all(bytes)?;
         Ok(())
     }
 
-    /// Closes the file, once its bytes are on the disk where that is asked for or another file is
-    /// replaced, and has it take its place, of which it gives the path. Where it can't, it is
-    /// removed.
-    pub fn take_place<R: Files>(self, rt: &R, flushing: bool) -> Result<String, FileError> {
+    /// Has the file take its place once its bytes are on the disk, and then has its name there.
+    /// Where it can't take its place, it is removed.
+    pub fn finish<R: Files<File = File>>(self, rt: &R) -> Result<OnDisk, FileError> {
+        match flush(&self.file) {
+            Ok(flushed) => {
+                let due = self.take_place(rt, Some(flushed))?;
+                keep_name(rt, due, flushed)
+            }
+            Err(e) => {
+                let path = self.remove(rt);
+                Err(FileError::from(e).at(Some(path)))
+            }
+        }
+    }
+
+    /// Closes the file, and has it take its place, of which it gives the path. What replaces
+    /// another file waits for the disk, unless its bytes are known to be there. Where it can't take
+    /// its place, it is removed.
+    pub fn take_place<R: Files>(self, rt: &R, bytes: Option<Flushed>) -> Result<String, FileError>
+        requires own { IfSome bytes (λ bytes. bytes.descriptor ≡ file_raw_fd self.file) }
+    {
         let NewFile {
             path,
             own,
@@ -216,19 +237,25 @@ impl NewFile {
         let Some(due) = due else {
             return Ok(own);
         };
-        let answer = due.confirm(rt, own.as_str(), &file, flushing || due.is_replacing);
-        if answer.is_err() {
+        let unflushed = match bytes {
+            None if due.is_replacing => flush(&file).err(),
+            Some(_) | None => None,
+        };
+        let answer = match unflushed {
+            Some(e) => Err(FileError::from(e)),
+            None => confirm(rt, own.as_str(), due.node),
+        };
+        if let Err(e) = answer {
             remove_own(rt, own.as_str(), due.node);
+            drop(file);
+            return Err(e.at(Some(path)));
         }
         drop(file);
-        if let Err(e) = answer {
-            return Err(e.of(path));
-        }
         match fs::rename(rt, own.as_str(), due.path.as_str()) {
             Ok(()) => Ok(due.path),
             Err(e) => {
                 remove_own(rt, own.as_str(), due.node);
-                Err(FileError::from(e).of(path))
+                Err(FileError::from(e).at(Some(path)))
             }
         }
     }
@@ -239,17 +266,21 @@ impl NewFile {
         &self,
         rt: &R,
         top: &str,
-    ) -> Result<(), FileError> {
-        if let Err(e) = self.file.sync_all() {
-            return Err(FileError::from(e).at(rt.alloc(), self.path.as_str()));
-        }
+    ) -> Result<Flushed, FileError> {
+        let flushed = match flush(&self.file) {
+            Ok(flushed) => flushed,
+            Err(e) => {
+                let path = String::from_str(rt.alloc(), self.path.as_str()).ok();
+                return Err(FileError::from(e).at(path));
+            }
+        };
         for (end, _) in self.own.match_indices('/') {
             match self.own.get(..end) {
                 Some(folder) if end >= top.len() => flush_folder(rt, folder)?,
                 Some(_) | None => {}
             }
         }
-        Ok(())
+        Ok(flushed)
     }
 
     /// Has a file that was made below a folder take its place by itself, at which nothing may be,
@@ -264,33 +295,19 @@ impl NewFile {
         Ok(due)
     }
 
-    /// Removes the file, if it stands beside its place, and closes it.
-    pub fn remove<R: Files>(self, rt: &R) {
-        let NewFile { own, file, due, .. } = self;
+    /// Removes the file, if it stands beside its place, and closes it. Gives the path that it was
+    /// made for.
+    pub fn remove<R: Files>(self, rt: &R) -> String {
+        let NewFile {
+            path,
+            own,
+            file,
+            due,
+        } = self;
         if let Some(due) = due {
             remove_own(rt, own.as_str(), due.node);
         }
         drop(file);
-    }
-}
-
-impl Due {
-    /// Waits until the bytes of the file are on the disk, where that is asked for. Another file at
-    /// its path is a fault: as long as it is open, no other one has its numbers.
-    fn confirm<R: Files>(
-        &self,
-        rt: &R,
-        own: &str,
-        file: &File,
-        flushing: bool,
-    ) -> Result<(), FileError> {
-        if flushing {
-            file.sync_all()?;
-        }
-        if stands_at(rt, own, self.node)? {
-            Ok(())
-        } else {
-            Err(FileError::from(Reason::Lost))
-        }
+        path
     }
 }

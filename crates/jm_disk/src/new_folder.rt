@@ -1,6 +1,7 @@
 //! A new folder, which stands beside its place until all below it is made.
-use crate::beside::{MOST_NAMES, path_beside};
+use crate::beside::{MOST_NAMES, confirm, path_beside};
 use crate::file_error::{FileError, Reason};
+use crate::flushing::{OnDisk, keep_name};
 use crate::new_file::NewFile;
 use crate::paths::{Node, behind_link, folder_of, is_absence, node_of, stands_at, text_of};
 use std::alloc::Global;
@@ -40,35 +41,31 @@ pub fn folder_for<R: Files<File = File> + AllocGlobal>(
         if folder.holds(path.as_bytes()) {
             return Ok(Some(folder));
         }
-        let _due = folder.take_place(rt)?;
+        let _named = folder.take_place(rt)?;
     }
     Ok(None)
 }
 
-/// The highest folder of a path that isn't there, or None where all are.
+/// The highest folder of a path that isn't there, or None where all are. A link to nothing is a
+/// fault.
 fn missing_folder<'p, R: Files>(rt: &R, path: &'p str) -> Result<Option<&'p str>, FileError> {
     for (end, _) in path.match_indices('/') {
-        match path.get(..end) {
-            Some(folder) if !folder.is_empty() && is_missing(rt, folder)? => {
-                return Ok(Some(folder));
-            }
-            Some(_) | None => {}
+        let folder = path.get(..end).unwrap_or("");
+        if folder.is_empty() {
+            continue;
         }
+        match fs::metadata(rt, folder) {
+            Ok(_) => continue,
+            Err(e) if e.kind() == ErrorKind::NotFound => {}
+            Err(e) => return Err(FileError::from(e)),
+        }
+        return match fs::symlink_metadata(rt, folder) {
+            Ok(_) => Err(FileError::from(Reason::LeadsNowhere)),
+            Err(e) if is_absence(e.kind()) => Ok(Some(folder)),
+            Err(e) => Err(FileError::from(e)),
+        };
     }
     Ok(None)
-}
-
-/// Whether nothing is at a path. A link to nothing is a fault.
-fn is_missing<R: Files>(rt: &R, path: &str) -> Result<bool, FileError> {
-    match fs::metadata(rt, path) {
-        Ok(_) => Ok(false),
-        Err(e) if e.kind() == ErrorKind::NotFound => match fs::symlink_metadata(rt, path) {
-            Ok(_) => Err(FileError::from(Reason::LeadsNowhere)),
-            Err(e) if is_absence(e.kind()) => Ok(true),
-            Err(e) => Err(FileError::from(e)),
-        },
-        Err(e) => Err(FileError::from(e)),
-    }
 }
 
 /// Makes the folders of a path that are missing. A link to nothing is in the way of one.
@@ -171,64 +168,64 @@ impl NewFolder {
         self.last = Some(file);
     }
 
-    /// Takes its place, of which it gives the path. Where another folder was made there meanwhile,
-    /// a file that is alone below it takes its own place there. Where it can't, it is removed.
-    pub fn take_place<R: Files + AllocGlobal>(self, rt: &R) -> Result<String, FileError> {
-        let answer = match (self.rename(rt), &self.last) {
-            (Ok(()), _) => return Ok(self.due),
-            (
-                Err(
-                    FileError {
-                        reason: Reason::System(e),
-                        ..
-                    },
-                ),
-                Some(file),
-            ) if self.is_alone
-                && matches!(
-                    e.kind(),
-                    ErrorKind::DirectoryNotEmpty | ErrorKind::AlreadyExists
-                ) => { file.move_alone(rt) }
-            (Err(e), _) => Err(e),
+    /// Takes its place. Gives the path of that, and the last file below it. Where another folder
+    /// was made there meanwhile, a file that is alone below it takes its own place there. Where it
+    /// can't, it is removed.
+    pub fn take_place<R: Files + AllocGlobal>(
+        self,
+        rt: &R,
+    ) -> Result<(String, Option<NewFile>), FileError> {
+        let renamed = match confirm(rt, self.own.as_str(), self.node) {
+            Ok(()) => match fs::rename(rt, self.own.as_str(), self.due.as_str()) {
+                Ok(()) => return Ok((self.due, self.last)),
+                Err(e) => FileError::from(e),
+            },
+            Err(e) => e,
+        };
+        let is_taken = match &renamed.reason {
+            Reason::System(e) => matches!(
+                e.kind(),
+                ErrorKind::DirectoryNotEmpty | ErrorKind::AlreadyExists
+            ),
+            _ => false,
+        };
+        let answer = match &self.last {
+            Some(file) if self.is_alone && is_taken => file.move_alone(rt),
+            Some(_) | None => Err(renamed),
         };
         self.remove(rt);
         match answer {
-            Ok(due) => Ok(due),
-            Err(e) => Err(e.of(self.due)),
+            Ok(due) => Ok((due, self.last)),
+            Err(e) => Err(e.at(Some(self.due))),
         }
     }
 
-    /// Takes its place, of which it gives the path, with the last file below it, if one is given,
-    /// once that is on the disk. Where it can't, it is removed.
+    /// Takes its place, with the last file below it, if one is given, once that is on the disk, and
+    /// then has its name there. Where it can't, it is removed, and so is one without a file, which
+    /// none was made for.
     pub fn finish<R: Files<File = File> + AllocGlobal>(
         self,
         rt: &R,
         last: Option<NewFile>,
-    ) -> Result<String, FileError> {
+    ) -> Result<OnDisk, FileError> {
         let mut folder = self;
         if let Some(file) = last {
             folder.keep(file);
         }
         let flushed = match &folder.last {
             Some(file) => file.flush_below(rt, folder.own.as_str()),
-            None => Ok(()),
+            None => Err(FileError::from(Reason::Lost)),
         };
         match flushed {
-            Ok(()) => folder.take_place(rt),
+            Ok(bytes) => {
+                let (due, _last) = folder.take_place(rt)?;
+                keep_name(rt, due, bytes)
+            }
             Err(e) => {
                 folder.remove(rt);
-                Err(e.of(folder.due))
+                Err(e.at(Some(folder.due)))
             }
         }
-    }
-
-    /// Has the folder take its place, unless another one stands at its path.
-    fn rename<R: Files>(&self, rt: &R) -> Result<(), FileError> {
-        if !stands_at(rt, self.own.as_str(), self.node)? {
-            return Err(FileError::from(Reason::Lost));
-        }
-        fs::rename(rt, self.own.as_str(), self.due.as_str())?;
-        Ok(())
     }
 
     /// Removes the folder with all that it holds, if it is the one that was made.

@@ -19,7 +19,7 @@ use std::rt::Files;
 /// for that isn't the whole.
 #[derive(Drop)]
 pub struct PartedFile {
-    path: String,
+    pub path: String,
     file: File,
     found: Metadata,
     told_length: u64,
@@ -97,11 +97,6 @@ fn open_at<R: Files<File = File> + AllocGlobal>(
 }
 
 impl PartedFile {
-    /// Whether the file was opened for this path.
-    pub fn is_for(&self, path: &[u8]) -> bool {
-        self.path.as_bytes() == path
-    }
-
     /// How many bytes the file has now, which is told.
     pub fn length(&mut self) -> Result<u64, FileError> {
         self.found = self.file.metadata()?;

@@ -91,11 +91,19 @@ pub enum Kind {
     Folder,
 }
 
-/// What the entry of a folder is, or what it leads to.
+/// What the entry of a folder is, or what it leads to. Where nothing is found, it is a link, or
+/// isn't there any more.
 pub fn kind_at<R: Files>(rt: &R, path: Path<'_>) -> Result<Kind, FileError> {
     let found = match fs::metadata(rt, path) {
         Ok(found) => found,
-        Err(e) if is_absence(e.kind()) => return Err(absent_at(rt, path)),
+        Err(e) if is_absence(e.kind()) => {
+            return Err(match fs::symlink_metadata(rt, path) {
+                Ok(found) if found.is_symlink() => FileError::from(Reason::LeadsNowhere),
+                Ok(_) => FileError::from(Reason::Vanished),
+                Err(e) if is_absence(e.kind()) => FileError::from(Reason::Vanished),
+                Err(e) => FileError::from(e),
+            });
+        }
         Err(e) => return Err(FileError::from(e)),
     };
     if found.is_file() {
@@ -107,16 +115,6 @@ pub fn kind_at<R: Files>(rt: &R, path: Path<'_>) -> Result<Kind, FileError> {
     }
 }
 
-/// Why nothing is found at the entry of a folder: it is a link, or it isn't there any more.
-fn absent_at<R: Files>(rt: &R, path: Path<'_>) -> FileError {
-    match fs::symlink_metadata(rt, path) {
-        Ok(found) if found.is_symlink() => FileError::from(Reason::LeadsNowhere),
-        Ok(_) => FileError::from(Reason::Vanished),
-        Err(e) if is_absence(e.kind()) => FileError::from(Reason::Vanished),
-        Err(e) => FileError::from(e),
-    }
-}
-
 /// Where a file is to be made: its path without a link at its end, and what the system says of the
 /// file that it replaces, or None where nothing is there.
 #[derive(Drop)]
@@ -125,11 +123,8 @@ pub struct Place {
     pub old: Option<Metadata>,
 }
 
-/// The place of a file that is to be made at a path.
+/// The place of a file that is to be made at a path, which ends in a name.
 pub fn place_at<R: Files + AllocGlobal>(rt: &R, path: &str) -> Result<Place, FileError> {
-    if !ends_in_name(path) {
-        return Err(FileError::from(Reason::NotFile));
-    }
     let there = match fs::symlink_metadata(rt, path) {
         Ok(there) => there,
         Err(e) if e.kind() == ErrorKind::NotFound => {
@@ -150,15 +145,6 @@ pub fn place_at<R: Files + AllocGlobal>(rt: &R, path: &str) -> Result<Place, Fil
     } else {
         Err(FileError::from(Reason::NotFile))
     }
-}
-
-/// Whether the last part of a path is a name, which no folder has by itself.
-pub fn ends_in_name(path: &str) -> bool {
-    let last = match path.rsplit_once('/') {
-        Some((_, last)) => last,
-        None => path,
-    };
-    !matches!(last, "" | "." | "..")
 }
 
 /// The place of the file that a link leads to. What has no path of its own is none, as a file

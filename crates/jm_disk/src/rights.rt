@@ -8,15 +8,10 @@ use std::rt::Files;
 /// The bits of a mode that say who may read, write and run a file.
 const ALL_RIGHTS: u32 = 0o777;
 
-/// The rights of a file that is replaced.
-fn rights_of(file: &Metadata) -> u32 {
-    file.mode() & ALL_RIGHTS
-}
-
 /// The rights with which the new file is made: those of the old one, but the owner's alone where
 /// its group has others than all. The new file may belong to another group at first.
 pub fn first_rights(old: &Metadata) -> u32 {
-    let rights = rights_of(old);
+    let rights = old.mode() & ALL_RIGHTS;
     if (rights >> 3) & 0o7 == rights & 0o7 {
         rights
     } else {
@@ -32,7 +27,7 @@ pub fn ask_leave<R: Files>(
     old: &Metadata,
     new: &Metadata,
 ) -> Result<(), FileError> {
-    let rights = rights_of(old);
+    let rights = old.mode() & ALL_RIGHTS;
     let writing = if old.uid() == new.uid() { 0o200 } else { 0o022 };
     // A program that runs may not be written to, whatever its rights are.
     if rights & writing == writing && rights & 0o111 == 0 {
@@ -45,12 +40,12 @@ pub fn ask_leave<R: Files>(
 /// Gives a new file the owner, the group and the rights of the old one, as far as the system lets
 /// it. Where it keeps the group to itself, all but the owner get what the group and all had.
 pub fn give_rights(file: &File, old: &Metadata, new: &Metadata) -> io::Result<()> {
-    let mut rights = rights_of(old);
+    let mut rights = old.mode() & ALL_RIGHTS;
     if !has_group(file, old, new) {
         let common = (rights >> 3) & rights & 0o7;
         rights = rights & 0o700 | common << 3 | common;
     }
-    if rights_of(new) == rights {
+    if new.mode() & ALL_RIGHTS == rights {
         return Ok(());
     }
     file.set_permissions(Permissions::from_mode(rights))
