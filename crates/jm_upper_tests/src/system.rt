@@ -232,9 +232,10 @@ fn kept_open<R: Files<File = File> + AllocGlobal>(rt: &R) -> Result<String, Fail
 }
 
 /// Whether a new folder is there when a file of it was made and a part of one that was open before
-/// is read; when another file of it was made, and was asked for. Of another new folder with two
-/// files, whether it is there when the making of files ended, and the bytes of the first file. Of a
-/// third one, whether it stands beside its place, and whether it is left when it was given up.
+/// is read; when another file of it was made, and was asked for, and when the making of files ended
+/// then. Of another new folder with two files, whether it is there when the making of files ended,
+/// whether it is left beside its place, and the bytes of the first file. Of a third one, whether it
+/// stands beside its place, and whether it is left when it was given up.
 fn made_together<R: Files<File = File> + AllocGlobal>(rt: &R) -> Result<String, Fail> {
     let alloc = rt.alloc();
     let mut shelf = FileShelf::new(rt);
@@ -246,17 +247,21 @@ fn made_together<R: Files<File = File> + AllocGlobal>(rt: &R) -> Result<String, 
     shelf.create(alloc, b"one/y")?;
     shelf.length(alloc, b"one/y")?;
     let is_asked = fs::exists(rt, "one")?;
+    let is_ended = shelf.finish(alloc).is_ok();
     shelf.create(alloc, b"two/x")?;
     shelf.append(alloc, b"two/x", b"2")?;
     shelf.create(alloc, b"two/y")?;
     shelf.finish(alloc)?;
     let is_there = fs::exists(rt, "two/y")?;
+    let is_unfinished = fs::exists(rt, "two.jm_tool-0")?;
     let first = fs::read_to_string(rt, "two/x")?;
     shelf.create(alloc, b"three/x")?;
     let is_beside = fs::exists(rt, "three.jm_tool-0/x")?;
     shelf.give_up();
     let is_left = fs::exists(rt, "three")? || fs::exists(rt, "three.jm_tool-0")?;
-    Ok(format!(in alloc; "{is_early} {is_asked} {is_there} {first} {is_beside} {is_left}")?)
+    Ok(format!(in alloc;
+        "{is_early} {is_asked} {is_ended} {is_there} {is_unfinished} {first} {is_beside} {is_left}"
+    )?)
 }
 
 #[test]
@@ -277,7 +282,7 @@ fn the_system_keeps_files(rt: HostRuntime) -> Result<(), Fail> {
     assert_eq!(rt; kept_open(&rt)?.as_str(), "6 bcd, true, 2 b, 2 b, true");
     assert_eq!(rt;
         made_together(&rt)?.as_str(),
-        "false true true 2 true false"
+        "false true true true false 2 true false"
     );
     let mut sink = StdSink::new(fs::create(&rt, "stream")?);
     assert_eq!(rt; put_marks(rt.alloc(), &mut sink)?.as_str(), "...");
