@@ -1,10 +1,10 @@
 -- The modules of directories and of a module path, as the steps find them.
-use Rattle.std.proofs.Common.{◌≡◌, ℕ, ◌+◌, ◌<◌, ◌≤◌, Bool, true, false, cond, List, [], ◌∷◌, ◌++◌, append-nil, rules}
-use Rattle.std.proofs.Common.{append_assoc, length, length-append, take, drop, get_or, Option, Some, None}
-use Rattle.std.proofs.Common.{Result, Ok, Err, refl, sym, ap, ◌∙◌, subst, arith, filter_map}
-use Rattle.std.proofs.lemmas.List.{at_drop_all, drop_more, take_at}
+use Rattle.std.proofs.Common.{◌≡◌, ℕ, ◌<◌, ◌≤◌, Bool, true, false, cond, List, [], ◌∷◌, ◌++◌, append-nil, rules}
+use Rattle.std.proofs.Common.{append_assoc, length, drop, get_or, Option, Some, None}
+use Rattle.std.proofs.Common.{Result, Ok, Err, refl, sym, ap, ◌∙◌, subst, arith}
+use Rattle.std.proofs.lemmas.List.{at_drop_all, drop_more}
 use Rattle.std.proofs.lemmas.List.Elements.{filter_map-append}
-use Rattle.std.specs.List.{cons_option, flat_map, range_with_len}
+use Rattle.std.specs.List.{cons_option, flat_map}
 use Rattle.jm_bytes.proofs.Choice.{same_err, same_ok}
 use Rattle.jm_bytes.proofs.CheckLaws.{first_fault_append_none, first_fault_append_some}
 use Rattle.jm_bytes.specs.Results.{followed}
@@ -20,8 +20,8 @@ use Rattle.jm_modpath.specs.declared.refusal.PathRefusal.TheVariants as refusal
 use Rattle.jm_modpath.specs.declared.visible.VisibleModule.{VisibleModule}
 use Rattle.jm_modpath.specs.Finding.{Comes, ShowsModules, directories_due, directory_due, folders_among}
 use Rattle.jm_modpath.specs.Finding.{folders_due, refused_at, shown_due, shown_more, with_unhidden}
-use Rattle.jm_modpath.specs.Modules.{bytes_at, directory_checks, folder_checks, folder_info, folders_in, info_path}
-use Rattle.jm_modpath.specs.Modules.{inside, is_named, module_in, module_of, module_with, modules_in, name_of}
+use Rattle.jm_modpath.specs.Modules.{bytes_at, checks_after, directory_checks, folder_checks, folder_info, folders_in, info_path}
+use Rattle.jm_modpath.specs.Modules.{inside, is_named, module_in, module_of, module_with, modules_among, modules_in, name_of}
 use Rattle.jm_modpath.specs.Modules.{path_refusal, unhidden, visible}
 use Rattle.jm_modpath.proofs.StepLaws.{comes_ended, told_both, told_more}
 
@@ -29,21 +29,10 @@ use Rattle.jm_modpath.proofs.StepLaws.{comes_ended, told_both, told_more}
 
 module _ (release : ℕ) (files : Files) (directory : List ℕ) where
   abbrev shown : List (List ℕ) → List VisibleModule
-  shown folders = filter_map (λ folder. module_in release files (inside directory folder)) folders
-
-  abbrev checks_in : List (List ℕ) → ℕ → List (Option PathRefusal)
-  checks_in folders place =
-      folder_checks directory (shown (take place folders)) (inside directory (get_or folders place []))
-      (folder_info release files (inside directory (get_or folders place [])))
-
-  got : (front : List (List ℕ)) (folder : List ℕ) (back : List (List ℕ)) → get_or (front ++ folder ∷ back) (length front) [] ≡ folder
-  got [] folder back = refl
-  got (f ∷ front) folder back = got front folder back
+  shown folders = modules_among release files directory folders
 
   abbrev whole : List (List ℕ) → List (List ℕ) → Result (List VisibleModule) PathRefusal
-  whole front back =
-      unless_fault (first_fault (flat_map (checks_in (front ++ back)) (range_with_len (length front) (length back))))
-      (shown (front ++ back))
+  whole front back = unless_fault (first_fault (checks_after release files directory front back)) (shown (front ++ back))
 
   pub folders_law : (front back : List (List ℕ)) → folders_due release files directory (shown front) back ≡ whole front back
   folders_law front [] = ap (λ fs. Ok (shown fs)) (sym (append-nil front))
@@ -59,18 +48,10 @@ module _ (release : ℕ) (files : Files) (directory : List ℕ) where
       of d = module_with at d (bytes_at files (info_path at)) (names_below at files)
 
       later : List (Option PathRefusal)
-      later = flat_map (checks_in all) (range_with_len (length front + 1) (length back))
-
-      here : checks_in all (length front) ≡ folder_checks directory (shown front) at (folder_info release files at)
-      here = rw (take_at front (folder ∷ back) (length front) refl, got front folder back) refl
+      later = checks_after release files directory (front ++ folder ∷ []) back
 
       moved : whole (front ++ folder ∷ []) back ≡ unless_fault (first_fault later) (shown all)
-      moved =
-          let list : (front ++ folder ∷ []) ++ back ≡ all = append_assoc front (folder ∷ []) back in
-          let size : length (front ++ folder ∷ []) ≡ length front + 1 = omega (arith, length-append front (folder ∷ [])) in
-          ap (λ fs. unless_fault (first_fault (flat_map (checks_in fs) (range_with_len (length (front ++ folder ∷ []))
-          (length back)))) (shown fs)) list
-          ∙ ap (λ n. unless_fault (first_fault (flat_map (checks_in all) (range_with_len n (length back)))) (shown all)) size
+      moved = ap (λ fs. unless_fault (first_fault later) (shown fs)) (append_assoc front (folder ∷ []) back)
 
       one_more : (d : Descriptor) → folder_info release files at ≡ Ok d → shown (front ++ folder ∷ []) ≡ shown front ++ of d ∷ []
       one_more d is =
@@ -99,9 +80,7 @@ module _ (release : ℕ) (files : Files) (directory : List ℕ) where
 
       go : folders_due release files directory (shown (front ++ folder ∷ [])) back ≡ whole (front ++ folder ∷ []) back
           → folders_due release files directory (shown front) (folder ∷ back) ≡ whole front (folder ∷ back)
-      go rest =
-          by_info (folder_info release files at) refl rest
-          ∙ ap (λ checks. unless_fault (first_fault (checks ++ later)) (shown all)) (sym here)
+      go rest = by_info (folder_info release files at) refl rest
 
   pub directory_law : folders_due release files directory [] (folders_in files directory) ≡ directory_due release files directory
   directory_law = folders_law [] (folders_in files directory)

@@ -2,11 +2,9 @@
 -- (JEP 261, exploded modules; that a folder stands directly in a directory, and which module hides
 -- another, is this project's rule). The number in front is the release of Java SE whose classes are
 -- taken.
-use Rattle.std.specs.Prelude.{ℕ, ◌&&◌, not, Bool, List, [], ◌∷◌, ◌++◌, length, map, take}
-use Rattle.std.specs.Prelude.{Option, Some, None, unwrap_or, Result, Ok, Err, slice_index_or}
-use Rattle.std.specs.Prelude.{if◌then◌else◌}
+use Rattle.std.specs.Prelude.{ℕ, ◌&&◌, not, Bool, List, [], ◌∷◌, ◌++◌, map}
+use Rattle.std.specs.Prelude.{Option, Some, None, unwrap_or, Result, Ok, Err, if◌then◌else◌}
 use Rattle.std.specs.List.{after_first, before_first, filter_map, flat_map, list_any}
-use Rattle.std.specs.List.{range_with_len}
 use Rattle.std.specs.Str.{bytes_eq}
 use Rattle.jm_bytes.specs.Checks.{fault_if, first_fault}
 use Rattle.jm_closure.specs.declared.candidate.Candidate.{Candidate}
@@ -90,11 +88,15 @@ module_in release files folder = module_of files folder (folder_info release fil
 abbrev pub name_of : VisibleModule → List ℕ
 name_of m = m.candidate.descriptor.name
 
--- the modules of the folders of a directory, as far as their files say one
+-- the modules that some folders of a directory show, as far as their files say one
+abbrev pub modules_among : ℕ → Files → List ℕ → List (List ℕ) → List VisibleModule
+modules_among release files directory folders =
+    filter_map (λ folder. module_in release files (inside directory folder)) folders
+
+-- the modules that all folders of a directory show
 abbrev pub modules_in : ℕ → Files → List ℕ → List VisibleModule
 modules_in release files directory =
-    filter_map (λ folder. module_in release files (inside directory folder))
-    (folders_in files directory)
+    modules_among release files directory (folders_in files directory)
 
 -- Refusals
 
@@ -111,21 +113,20 @@ folder_checks directory earlier folder (Err fault) =
 folder_checks directory earlier folder (Ok d) =
     fault_if (is_named earlier d.name) (refusal.TwoModules directory d.name) ∷ []
 
--- the same of the folder at a place of those of a directory
-abbrev pub checks_at : ℕ → Files → List ℕ → ℕ → List (Option PathRefusal)
-checks_at release files directory place =
-    folder_checks directory
-    (filter_map (λ folder. module_in release files (inside directory folder))
-    (take place (folders_in files directory)))
-    (inside directory (slice_index_or (folders_in files directory) place []))
-    (folder_info release files
-    (inside directory (slice_index_or (folders_in files directory) place [])))
+-- what can be wrong with folders of a directory in their order, with each after all that stand
+-- before it, of which these are the earlier ones
+abbrev pub checks_after : ℕ → Files → List ℕ → (earlier folders : List (List ℕ))
+    → List (Option PathRefusal)
+checks_after release files directory earlier [] = []
+checks_after release files directory earlier (folder ∷ folders) =
+    folder_checks directory (modules_among release files directory earlier)
+    (inside directory folder) (folder_info release files (inside directory folder))
+    ++ checks_after release files directory (earlier ++ folder ∷ []) folders
 
--- the same of all folders of a directory, in their order
+-- what can be wrong with all folders of a directory, in their order
 abbrev pub directory_checks : ℕ → Files → List ℕ → List (Option PathRefusal)
 directory_checks release files directory =
-    flat_map (checks_at release files directory)
-    (range_with_len 0 (length (folders_in files directory)))
+    checks_after release files directory [] (folders_in files directory)
 
 -- the first refusal of a module path, directory by directory and folder by folder: no module, or a
 -- name twice in a directory
