@@ -1,5 +1,6 @@
 pub mod FolderLaws
 pub mod FoundLaws
+pub mod ListedLaws
 pub mod ModulesLaws
 pub mod PathLaws
 pub mod PathVectors

@@ -52,6 +52,18 @@ abbrev pub AfterStep : {A : Type 0} → Type 0 → Result A PathStop → Type 0
 AfterStep Fact (Ok value) = Fact
 AfterStep Fact (Err stop) = AfterStop Fact stop
 
+-- the path of a file that isn't there, if a step ended so, is such a one
+abbrev pub LacksBy : (List ℕ → Type 0) → PathStop → Type 0
+LacksBy Such (stop.Refused r) = Unit {0}
+LacksBy Such (stop.NotThere path) = Such path
+LacksBy Such stop.Outside = Unit {0}
+LacksBy Such stop.Memory = Unit {0}
+
+-- the same by the answer of a step
+abbrev pub Lacks : {A : Type 0} → (List ℕ → Type 0) → Result A PathStop → Type 0
+Lacks Such (Ok value) = Unit {0}
+Lacks Such (Err stop) = LacksBy Such stop
+
 -- Names
 
 -- the folders with a descriptor among the names below a directory

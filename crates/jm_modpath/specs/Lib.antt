@@ -1,4 +1,5 @@
 pub mod Finding
 pub mod FoundView
+pub mod Listed
 pub mod Modules
 pub mod ModulesView

@@ -1,13 +1,15 @@
 //! The modules that the folders of a directory show.
-ghost use Rattle.std.specs.Prelude.{◌≡◌, ◌≢◌, [], All, Contains, IsTrue, IsUtf8, IfOk, IsOk};
-ghost use Rattle.std.specs.Prelude.{IsErrOf};
+ghost use Rattle.std.specs.Prelude.{◌≡◌, ◌≢◌, ◌≤◌, ◌+◌, [], All, Contains, IsTrue, IsUtf8, length};
+ghost use Rattle.std.specs.Prelude.{IfOk, IsOk, IsErrOf};
 ghost use Rattle.std.specs.Prelude.{None, Ok, Err, true, false};
 ghost use Rattle.jm_modinfo.specs.Constants.{is_legal};
 ghost use Rattle.jm_modinfo.specs.Descriptions.{info_for, info_in};
 ghost use Rattle.jm_outside.specs.Files.{Rising, file, names_below};
 ghost use Rattle.jm_outside.specs.Outcome.{CountsFaults, Shows};
-ghost use Rattle.jm_modpath.specs.Finding.{AfterStep, Comes, HasTexts, directory_due, folder_due};
-ghost use Rattle.jm_modpath.specs.Finding.{folders_among, folders_due, info_due, refused_at};
+ghost use Rattle.jm_modpath.specs.Finding.{AfterStep, Comes, HasTexts, Lacks, directory_due};
+ghost use Rattle.jm_modpath.specs.Finding.{folder_due, folders_among, folders_due, info_due};
+ghost use Rattle.jm_modpath.specs.Finding.{refused_at};
+ghost use Rattle.jm_modpath.specs.Listed.{IsInside, info_size, infos_size};
 ghost use Rattle.jm_modpath.specs.declared.refusal.PathRefusal.TheVariants.{TwoModules};
 ghost use Rattle.jm_modpath.specs.Modules.{bytes_at, info_path, inside};
 ghost use Rattle.jm_modpath.specs.Modules.{is_named, module_with, name_of};
@@ -36,6 +38,7 @@ fn info_at(alloc: Global, release: u32, path: Text, bytes: Text) -> Result<Descr
     ensures due { Comes ⊥ (refused_at path bytes (info_for release bytes)) result }
     ensures legal { IfOk result (λ info. is_legal info.descriptor.name ≡ true) }
     ensures said { IfOk result (λ info. info_in info.bytes ≡ Ok info.descriptor) }
+    ensures lacks { Lacks (λ path. ⊥) result }
     ensures inside { ¬ IsErrOf result PathStop.Outside }
 {
     match describe_bytes(alloc, release, bytes.as_slice()) {
@@ -59,6 +62,9 @@ fn read_info<S: Shelf>(
         (info_due release folder.now (bytes_at files (info_path folder.now))) result) }
     ensures legal { IfOk result (λ info. is_legal info.descriptor.name ≡ true) }
     ensures said { IfOk result (λ info. info_in info.bytes ≡ Ok info.descriptor) }
+    ensures lacks { Lacks (λ path. path ≡ info_path folder.now) result }
+    ensures takes { Shows (S.files shelf.old) (λ files. S.handed shelf.new
+        ≤ S.handed shelf.old + length (bytes_at files (info_path folder.now))) }
     ensures whole { AfterStep (IsTrue (S.whole shelf.new)) result }
     ensures faults { CountsFaults (S.faults shelf.old) (S.faults shelf.new) (IsOk result)
         (IsErrOf result PathStop.Outside) }
@@ -97,6 +103,7 @@ fn module_with(
 fn two_modules(alloc: Global, directory: &[u8], name: &[u8]) -> PathStop
     ensures due { Comes {A = VisibleModule} ⊥ (Err (TwoModules directory.now name.now))
         (Err result) }
+    ensures lacks { Lacks {A = VisibleModule} (λ path. ⊥) (Err result) }
     ensures inside { result ≢ PathStop.Outside }
 {
     match (Text::copy_of(alloc, directory), Text::copy_of(alloc, name)) {
@@ -133,6 +140,11 @@ fn visible_module<S: Shelf>(
         folder.now) result) }
     ensures new { IfOk result (λ m. is_named earlier.now (name_of m) ≡ false) }
     ensures texts { IfOk result HasTexts }
+    ensures folder { IfOk result (λ m. m.folder ≡ inside listing.entry.directory.now folder.now) }
+    ensures lacks { Lacks (λ path. path ≡ info_path (inside listing.entry.directory.now folder.now))
+        result }
+    ensures takes { Shows (S.files shelf.old) (λ files. S.handed shelf.new
+        ≤ S.handed shelf.old + info_size files listing.entry.directory.now folder.now) }
     ensures whole { AfterStep (IsTrue (S.whole shelf.new)) result }
     ensures faults { CountsFaults (S.faults shelf.old) (S.faults shelf.new) (IsOk result)
         (IsErrOf result PathStop.Outside) }
@@ -162,6 +174,10 @@ fn found_among<S: Shelf>(
     ensures told { Shows (S.files shelf.old) (λ files.
         Comes ⊥ (folders_due listing.entry.release files listing.entry.directory.now []
         (folders_among listing.entry.names.now)) result) }
+    ensures below { IfOk result (All (λ m. IsInside listing.entry.directory.now m.folder)) }
+    ensures lacks { Lacks (IsInside listing.entry.directory.now) result }
+    ensures takes { Shows (S.files shelf.old) (λ files. S.handed shelf.new
+        ≤ S.handed shelf.old + infos_size files listing.entry.directory.now) }
     ensures whole { IsTrue (S.whole shelf.old) → AfterStep (IsTrue (S.whole shelf.new)) result }
     ensures faults { CountsFaults (S.faults shelf.old) (S.faults shelf.new) (IsOk result)
         (IsErrOf result PathStop.Outside) }
@@ -186,6 +202,10 @@ pub fn found_in<S: Shelf>(
     ensures files { S.files shelf.new ≡ S.files shelf.old }
     ensures told { Shows (S.files shelf.old) (λ files.
         Comes ⊥ (directory_due release files directory.now) result) }
+    ensures below { IfOk result (All (λ m. IsInside directory.now m.folder)) }
+    ensures lacks { Lacks (IsInside directory.now) result }
+    ensures takes { Shows (S.files shelf.old) (λ files. S.handed shelf.new
+        ≤ S.handed shelf.old + infos_size files directory.now) }
     ensures whole { AfterStep (IsTrue (S.whole shelf.new)) result }
     ensures faults { CountsFaults (S.faults shelf.old) (S.faults shelf.new) (IsOk result)
         (IsErrOf result PathStop.Outside) }

@@ -1,10 +1,10 @@
 //! The modules that a module path shows.
-ghost use Rattle.std.specs.Prelude.{◌≡◌, ◌≢◌, ◌∷◌, ◌++◌, [], All, IsTrue, IsUtf8, IfOk, IsOk};
-ghost use Rattle.std.specs.Prelude.{IsErrOf};
+ghost use Rattle.std.specs.Prelude.{◌≡◌, ◌≢◌, ◌≤◌, ◌+◌, ◌⊎◌, ◌∷◌, ◌++◌, [], All, Contains, IsTrue};
+ghost use Rattle.std.specs.Prelude.{IsUtf8, IfOk, IsOk, IsErrOf};
 ghost use Rattle.jm_outside.specs.Outcome.{CountsFaults, Shows};
-ghost use Rattle.jm_modpath.specs.Finding.{AfterStep, AreVisible, Comes, HasTexts, ShowsModules};
-ghost use Rattle.jm_modpath.specs.Finding.{shown_more};
-ghost use Rattle.jm_modpath.specs.Finding.{with_unhidden};
+ghost use Rattle.jm_modpath.specs.Finding.{AfterStep, AreVisible, Comes, HasTexts, Lacks};
+ghost use Rattle.jm_modpath.specs.Finding.{ShowsModules, shown_more, with_unhidden};
+ghost use Rattle.jm_modpath.specs.Listed.{IsBelow, IsInside, all_infos_size, infos_size};
 ghost use Rattle.jm_modpath.specs.Modules.{unhidden};
 
 use crate::directory::found_in;
@@ -61,6 +61,11 @@ fn with_directory<S: Shelf>(
     ensures files { S.files shelf.new ≡ S.files shelf.old }
     ensures told { Shows (S.files shelf.old) (λ files.
         Comes ⊥ (shown_more release files found directory.now) result) }
+    ensures from { IfOk result (λ all. (m : _) → Contains all m
+        → Contains found m ⊎ IsInside directory.now m.folder) }
+    ensures lacks { Lacks (IsInside directory.now) result }
+    ensures takes { Shows (S.files shelf.old) (λ files. S.handed shelf.new
+        ≤ S.handed shelf.old + infos_size files directory.now) }
     ensures whole { AfterStep (IsTrue (S.whole shelf.new)) result }
     ensures faults { CountsFaults (S.faults shelf.old) (S.faults shelf.new) (IsOk result)
         (IsErrOf result PathStop.Outside) }
@@ -71,8 +76,8 @@ fn with_directory<S: Shelf>(
 
 /// The modules that the directories of a module path show: the folders of each that directly hold
 /// a `module-info.class`, rising. These files are read as classes of this release of Java SE. A
-/// module of an earlier directory hides one of its name in a later directory. Time n log n in the
-/// files.
+/// module of an earlier directory hides one of its name in a later directory. Each of these files
+/// is read once. Time n log n in the files.
 pub fn visible_modules<S: Shelf>(
     alloc: Global,
     release: u32,
@@ -84,6 +89,10 @@ pub fn visible_modules<S: Shelf>(
     ensures modules { Shows (S.files shelf.old) (λ files.
         ShowsModules release files directories.now result) }
     ensures are { IfOk result AreVisible }
+    ensures below { IfOk result (All (λ m. IsBelow directories.now m.folder)) }
+    ensures lacks { Lacks (IsBelow directories.now) result }
+    ensures takes { Shows (S.files shelf.old) (λ files. S.handed shelf.new
+        ≤ S.handed shelf.old + all_infos_size files directories.now) }
     ensures whole { directories.now ≢ [] → AfterStep (IsTrue (S.whole shelf.new)) result }
     ensures faults { CountsFaults (S.faults shelf.old) (S.faults shelf.new) (IsOk result)
         (IsErrOf result PathStop.Outside) }

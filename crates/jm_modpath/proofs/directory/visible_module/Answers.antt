@@ -63,3 +63,15 @@ returns-clause-texts g c =
       legal = c.in_ok-info.ensures.legal;
       said = c.in_ok-info.ensures.said;
     })
+
+pub returns-then-has-clause-takes : goal.returns-then-has-clause-takes
+returns-then-has-clause-takes g c = rw (c.as_slice.ensures, c.in_ok-path.ensures) at c.read_info.ensures.takes
+
+pub returns-in_err-files-clause-takes : goal.returns-in_err-files-clause-takes
+returns-in_err-files-clause-takes g c = rw (c.as_slice.ensures, c.in_ok-path.ensures) at c.read_info.ensures.takes
+
+pub returns-in_err-module_with-clause-takes : goal.returns-in_err-module_with-clause-takes
+returns-in_err-module_with-clause-takes g c = rw (c.as_slice.ensures, c.in_ok-path.ensures) at c.read_info.ensures.takes
+
+pub returns-clause-takes : goal.returns-clause-takes
+returns-clause-takes g c = rw (c.as_slice.ensures, c.in_ok-path.ensures) at c.read_info.ensures.takes
