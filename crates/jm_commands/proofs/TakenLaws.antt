@@ -1,5 +1,5 @@
--- What a run takes of its image.
-use Rattle.std.proofs.Common.{◌≡◌, ℕ, Option, Result, Ok, Err, refl, subst}
+-- What a run takes of files.
+use Rattle.std.proofs.Common.{◌≡◌, ℕ, Option, Result, Ok, Err, length, refl, subst}
 use Rattle.jm_link.specs.Linked.{Request}
 use Rattle.jm_link.specs.Links.{request_of}
 use Rattle.jm_outside.specs.Files.{Files}
@@ -22,7 +22,7 @@ task_takes_nothing : (told : Option Files) (given : Task) (n : ℕ) → TaskTake
 task_takes_nothing told (task.Image image does) n = work_takes_nothing told image does n
 task_takes_nothing told (task.Link link) n = link_takes_nothing told (request_of link) link.source n
 task_takes_nothing told (task.Gen gen) n = tt
-task_takes_nothing told (task.Describe file release) n = tt
+task_takes_nothing told (task.Describe file release) n = takes_nothing told file (λ b. length b) n
 task_takes_nothing told task.Help n = refl
 task_takes_nothing told task.Version n = refl
 

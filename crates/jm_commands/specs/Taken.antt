@@ -1,5 +1,5 @@
--- How many bytes of its image a run takes from the shelf (this project's rule).
-use Rattle.std.specs.Prelude.{ℕ, ◌+◌, ◌≡◌, ◌≤◌, List, Option, Some, None, Result, Ok, Err}
+-- How many bytes of files a run takes from the shelf (this project's rule).
+use Rattle.std.specs.Prelude.{ℕ, ◌+◌, ◌≡◌, ◌≤◌, List, length, Option, Some, None, Result, Ok, Err}
 use Rattle.jm_form.specs.declared.damage.Damage.{Damage}
 use Rattle.jm_form.specs.Damages.{first_damage}
 use Rattle.jm_link.specs.ImageTaken.{TakesLinked}
@@ -12,7 +12,7 @@ use Rattle.jm_words.specs.declared.tasks.Source.{Source}
 use Rattle.jm_words.specs.declared.tasks.Source.TheVariants as source
 use Rattle.jm_words.specs.declared.tasks.Task.{Task}
 use Rattle.jm_words.specs.declared.tasks.Task.TheVariants as task
-use Rattle.jm_inspect.specs.Taken.{TakesBy, WorkTakes, front_size}
+use Rattle.jm_inspect.specs.Taken.{TakesBy, TakesFrom, WorkTakes, front_size}
 
 -- what a link takes of an image, by its first damage: the front, and without a damage what is said
 -- of the link of its modules besides
@@ -27,14 +27,14 @@ LinkTakes told asked (source.Path directories) old new = Unit {0}
 LinkTakes told asked (source.Image path) old new =
     TakesBy told path (λ b. TakesLinkedOf (first_damage b) asked b) old new
 
--- what a task takes: such a work or link as said, `--help` and `--version` nothing; of the others
--- nothing is said
+-- what a task takes: such a work or link as said, `describe` the file at its path once, `--help`
+-- and `--version` nothing; of `gen` nothing is said
 abbrev pub TaskTakes : Option Files → Task → (old new : ℕ) → Type 0
 TaskTakes told (task.Image image work) old new = WorkTakes told image work old new
 TaskTakes told (task.Link link) old new =
     LinkTakes told (request_of link) link.source old new
 TaskTakes told (task.Gen gen) old new = Unit {0}
-TaskTakes told (task.Describe file release) old new = Unit {0}
+TaskTakes told (task.Describe file release) old new = TakesFrom told file (λ b. length b) old new
 TaskTakes told task.Help old new = new ≡ old
 TaskTakes told task.Version old new = new ≡ old
 

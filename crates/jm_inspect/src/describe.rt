@@ -1,4 +1,4 @@
-ghost use Rattle.std.specs.Prelude.{◌≡◌, IsOk, IsErrOf, IsUtf8, List, ℕ};
+ghost use Rattle.std.specs.Prelude.{◌≡◌, IsOk, IsErrOf, IsUtf8, List, ℕ, length};
 ghost use Rattle.jm_outside.specs.Outcome.{CountsFaults};
 ghost use Rattle.jm_outside.specs.Shelves.{shelf_at};
 ghost use Rattle.jm_inspect.specs.FileParts.{ReadsFile};
@@ -6,6 +6,7 @@ ghost use Rattle.jm_inspect.specs.Outcome.{describe_outcome, reading};
 ghost use Rattle.jm_inspect.specs.Works.{FileComesTo};
 ghost use Rattle.jm_inspect.specs.Steps.{PutDoes, StepComesTo};
 ghost use Rattle.jm_inspect.specs.Sinks.{Seen};
+ghost use Rattle.jm_inspect.specs.Taken.{TakesFrom};
 ghost use Rattle.jm_inspect.specs.World.{sink_at, world};
 
 use crate::complaint::Complaint;
@@ -22,6 +23,8 @@ fn file_bytes<S: Shelf>(alloc: Global, path: &Text, shelf: &mut S) -> Result<Tex
     requires { IsUtf8 path.now }
     ensures files { S.files shelf.new ≡ S.files shelf.old }
     ensures reads { ReadsFile (S.files shelf.old) path.now result }
+    ensures takes { TakesFrom (S.files shelf.old) path.now (λ b. length b)
+        (S.handed shelf.old) (S.handed shelf.new) }
     ensures faults { CountsFaults (S.faults shelf.old) (S.faults shelf.new) (IsOk result)
         (IsErrOf result Stop.Outside) }
 {
@@ -58,7 +61,7 @@ fn put_described<O: Sink>(
 }
 
 /// `describe`: puts what the class of a module says, which the file at a path is, one of a release
-/// of Java SE. The source of the run isn't lent to it.
+/// of Java SE. The file is read once. The source of the run isn't lent to it.
 pub fn describe_command<S: Shelf, O: Sink>(
     alloc: Global,
     path: &Text,
@@ -67,11 +70,13 @@ pub fn describe_command<S: Shelf, O: Sink>(
     out: &mut O,
 ) -> Result<(), Stop>
     requires { IsUtf8 path.now }
-    ensures { (source : Seen (List ℕ)) →
+    ensures comes { (source : Seen (List ℕ)) →
         StepComesTo (FileComesTo (S.files shelf.old) path.now
         (λ b due. due ≡ describe_outcome release path.now b)) reading result
         (world (shelf_at S.Shelf shelf.old) source (sink_at O.Sink out.old))
         (world (shelf_at S.Shelf shelf.new) source (sink_at O.Sink out.new)) }
+    ensures takes { TakesFrom (S.files shelf.old) path.now (λ b. length b)
+        (S.handed shelf.old) (S.handed shelf.new) }
 {
     match file_bytes(alloc, path, shelf) {
         Ok(bytes) => put_described(alloc, path.as_slice(), release, bytes.as_slice(), out),

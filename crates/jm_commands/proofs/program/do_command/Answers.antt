@@ -21,7 +21,7 @@ pub returns-in-Gen-clause-comes : goal.returns-in-Gen-clause-comes
 returns-in-Gen-clause-comes g c = rw c.in-Gen.is (c.gen_command.ensures (source_at g.I.Source c.args.input.now))
 
 pub returns-in-Describe-clause-comes : goal.returns-in-Describe-clause-comes
-returns-in-Describe-clause-comes g c = rw c.in-Describe.is (c.describe_command.ensures _)
+returns-in-Describe-clause-comes g c = rw c.in-Describe.is (c.describe_command.ensures.comes _)
 
 pub returns-in-Help-clause-comes : goal.returns-in-Help-clause-comes
 returns-in-Help-clause-comes g c = rw c.in-Help.is (put_comes (λ due. due ≡ done help_text) without_files (done help_text) _ _ _

@@ -6,8 +6,8 @@ use Rattle.jm_inspect.proofs.OutcomeLaws.{describe_session}
 use Rattle.jm_inspect.proofs.StepLaws.{file_read, file_unread, put_comes}
 use Rattle.jm_inspect.proofs.describe.describe_command.Goals as goal
 
-pub returns-in-Ok : goal.returns-in-Ok
-returns-in-Ok g c source =
+pub returns-in-Ok-clause-comes : goal.returns-in-Ok-clause-comes
+returns-in-Ok-clause-comes g c source =
     let read = c.in-Ok.ensures in
     let path = c.args.path.now in
     let b = c.in-Ok.bytes in
@@ -18,8 +18,8 @@ returns-in-Ok g c source =
     (put_comes (λ due. due ≡ describe_outcome c.args.release path b) reading (describe_outcome c.args.release path b) _ _ _ refl put refl refl
     (describe_session c.args.release path b) (λ ok. (refl, refl)))
 
-pub returns-in-Err : goal.returns-in-Err
-returns-in-Err g c source =
+pub returns-in-Err-clause-comes : goal.returns-in-Err-clause-comes
+returns-in-Err-clause-comes g c source =
     let read = c.in-Err.ensures in
     file_unread _ c.args.path.now c.in-Err.stop _ _ read.reads (record { files = read.files; source = refl; output = refl })
     (λ failed. read.faults.rose (rw failed refl))
