@@ -61,7 +61,7 @@ module _ (link : LinkTask) (b : List ℕ) where
     by_result (Err refusal) comes is = absurd (never_refused b (request_of link) file.relinks refusal comes.0)
 
     valid : Valid b
-    valid = subst Valid (sym file.relinks.made) (laid b (request_of link) file.relinks).valid
+    valid = subst Valid (sym file.relinks.was.made) (laid b file.relinks.source file.relinks.first file.relinks.was).valid
 
     opened : OpenedComesTo (ImageLinkComesTo link_text link b) (first_damage b) due → (due.status ≡ status.Done)
         × (due.writes ≡ (link.output, b) ∷ [])

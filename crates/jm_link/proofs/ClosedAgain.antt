@@ -3,19 +3,21 @@
 use Rattle.std.proofs.Common.{◌≡◌, ◌<◌, ◌+◌, inl, inr, ℕ, zero, suc, Bool, true, false, List, [], ◌∷◌, ◌++◌}
 use Rattle.std.proofs.Common.{length, map, get_or, AllPairs, Contains, Some, slice_get, Ok, refl, sym, ap}
 use Rattle.std.proofs.Common.{subst, ◌∙◌, arith}
+use Rattle.std.proofs.lemmas.Bool.{cases_order}
 use Rattle.std.proofs.lemmas.List.FromFn.{get_or-range_with_len, length-range_with_len}
 use Rattle.std.proofs.lemmas.Option.{slice_get-get_or, slice_get-map}
 use Rattle.std.specs.Cmp.Lexicographic.{slice_cmp}
 use Rattle.std.specs.List.{filter_map, range_with_len}
 use Rattle.std.specs.Ordering.{is_lt, nat_cmp}
 use Rattle.std.specs.declared.cmp.Ordering.TheVariants.{Less}
+use Rattle.jm_bytes.proofs.ByteOrderLaws.{before_apart}
 use Rattle.jm_bytes.proofs.Choice.{same_some}
 use Rattle.jm_bytes.proofs.Members.{contains_cases, contains_filter_map, contains_here, contains_later}
 use Rattle.jm_bytes.proofs.Members.{contains_map, contains_none, contains_range, from_map, from_range}
 use Rattle.jm_bytes.proofs.Pairs.{pairs_filter_map, pairs_map, pairs_weaker}
 use Rattle.jm_closure.specs.declared.candidate.Candidate.{Candidate}
 use Rattle.jm_closure.proofs.ReachLaws.{leads_more}
-use Rattle.jm_closure.specs.Modules.{IsFound, IsRoot, Leads, Requires, name_of, needed_by, required_by}
+use Rattle.jm_closure.specs.Modules.{HasName, IsFound, IsRoot, Leads, Requires, name_of, needed_by, required_by}
 use Rattle.jm_closure.specs.Refusals.{AreChosen, Closes, Holds, IsAcyclic, IsUnsplit, NeedsFound, RootsFound}
 use Rattle.jm_bytes.proofs.Choice.{mapped_some}
 use Rattle.jm_link.specs.Chosen.{Chosen}
@@ -75,7 +77,7 @@ chosen_further false found roots i j (from, places, root, leads) requires =
     (from, places ++ j ∷ [], root, leads_more (Requires found) from places i j leads requires)
 
 -- a root is chosen
-root_chosen : (bind : Bool) (found : List Candidate) (roots : List (List ℕ)) (i : ℕ) → IsRoot found roots i → Chosen bind found roots i
+pub root_chosen : (bind : Bool) (found : List Candidate) (roots : List (List ℕ)) (i : ℕ) → IsRoot found roots i → Chosen bind found roots i
 root_chosen true found roots i root = λ places closed. closed.rooted i root
 root_chosen false found roots i root = (i, [], root, refl)
 
@@ -235,10 +237,34 @@ module _ (found : List Candidate) (Taken : ℕ → Type 0) (places : List ℕ) (
       unsplit_again unsplit shared (name, (other, differ, one, two)) =
           unsplit shared (name, (other, differ, held_before shared name one, held_before shared other two))
 
+    rise_again : AllPairs Before found_again
+    rise_again =
+        pairs_map Before again taken
+        (pairs_weaker Before (λ c d. Before (again c) (again d)) (λ c d before. rw (name_same c, name_same d) before) taken taken_rise)
+
+    -- a name has one place
+    place_once : (k l : ℕ) (name : List ℕ) → HasName found_again k name → HasName found_again l name → k ≡ l
+    place_once k l name (a, at, is) (b, too, also) =
+        elim (cases_order k l) [
+          | inl same ↦ same
+          | inr rest ↦
+              elim rest [
+                | inl less ↦ absurd (before_apart (name_of a) (name_of b) (pairs_at Before found_again rise_again k l a b at too less) (is ∙ sym also))
+                | inr more ↦ absurd (before_apart (name_of b) (name_of a) (pairs_at Before found_again rise_again l k b a too at more) (also ∙ sym is))
+              ]
+        ]
+
+    -- a module that was taken is one of those that are found again
+    pub place_again : (c : Candidate) → Contains taken c → (k : ℕ) × HasName found_again k (name_of c)
+    place_again c among =
+        let at = place_of found_again (again c) (contains_map again taken c among) in
+        (at.0, (again c, at.1, name_same c))
+
     -- All are chosen
 
-    module _ (roots : List (List ℕ)) (rooted : (c : Candidate) → Contains taken c → Contains roots (name_of c))
-        (only : (name : List ℕ) → Contains roots name → (c : Candidate) × Contains taken c × (name_of c ≡ name)) (bind : Bool) where
+    module _ (roots : List (List ℕ)) (bind : Bool) (every : (c : Candidate) → Contains taken c → (k : ℕ)
+        × Chosen bind found_again roots k × HasName found_again k (name_of c)) (only : (name : List ℕ) → Contains roots name
+        → (c : Candidate) × Contains taken c × (name_of c ≡ name)) where
       abbrev Again : ℕ → Type 0
       Again = Chosen bind found_again roots
 
@@ -251,16 +277,11 @@ module _ (found : List Candidate) (Taken : ℕ → Type 0) (places : List ℕ) (
       all_again k less =
           let held = element_at found_again k less in
           let w = was k held.0 held.1 in
-          root_chosen bind found_again roots k (
-            name_of w.candidate,
-            rooted w.candidate w.among,
-            (
-              held.0,
-              held.1,
-              ap name_of
-                  (sym w.here) ∙ name_same w.candidate,
-            ),
-          )
+          go w (held.0, held.1, ap name_of (sym w.here) ∙ name_same w.candidate) (every w.candidate w.among)
+        where
+          go : {c : Candidate} (w : WasTaken k c) → HasName found_again k (name_of w.candidate) → (l : ℕ)
+              × Again l × HasName found_again l (name_of w.candidate) → Again k
+          go w here (l, chosen, named) = subst Again (place_once l k (name_of w.candidate) named here) chosen
 
       abbrev pub all_places : List ℕ
       all_places = range_with_len 0 (length found_again)
@@ -275,14 +296,8 @@ module _ (found : List Candidate) (Taken : ℕ → Type 0) (places : List ℕ) (
         rising = λ k i j a b at next one other.
             let first : i ≡ k = range_at (length found_again) k i at in
             let second : j ≡ k + 1 = range_at (length found_again) (k + 1) j next in
-            pairs_at Before found_again rise i j a b one other (omega (arith, first, second));
+            pairs_at Before found_again rise_again i j a b one other (omega (arith, first, second));
       }
-        where
-          rise : AllPairs Before found_again
-          rise =
-              pairs_map Before again taken
-              (pairs_weaker Before (λ c d. Before (again c) (again d)) (λ c d before. rw (name_same c, name_same d) before) taken
-              taken_rise)
 
       pub closes_again : NeedsFound found Taken → IsAcyclic found Taken → IsUnsplit found Taken
           → ((i j : ℕ) → Taken i → Requires found i j → Taken j) → Closes found_again roots Again (Ok all_places)

@@ -18,12 +18,13 @@ use Rattle.jm_link.specs.Chosen.{Chosen, roots_among}
 use Rattle.jm_link.specs.ImageLinked.{ImageLinks, ImageLinksTo, IsImageTo, resources_seen, seen_candidates}
 use Rattle.jm_link.specs.Linked.{LinkedImage, Request}
 use Rattle.jm_link.specs.Links.{IsLaid}
-use Rattle.jm_link.specs.Relinked.{GivesBack, Relinks, Takes}
+use Rattle.jm_link.specs.Relinked.{GivesBack, IsLinkedFrom, Relinks, Shows, Source, Takes}
+use Rattle.jm_link.specs.Relinked.Source.{Image}
 use Rattle.jm_outside.specs.Holds.{Holds}
 use Rattle.jm_outside.specs.Shelves.{ShelfSeen}
 use Rattle.jm_link.proofs.MadeFrom.{IsMadeFrom, linked_laid, made_from, modules_taken, taken_within}
 use Rattle.jm_link.proofs.OnceLaws.{among_once}
-use Rattle.jm_link.proofs.RelinkedLaws.{IsMade, links_to}
+use Rattle.jm_link.proofs.RelinkedLaws.{IsMade, links_to, roots_taken}
 
 -- a link of an image has one answer
 pub image_once : (b : List ℕ) (asked : Request) (one other : Result LinkedImage Refusal) → ImageLinksTo b asked one
@@ -36,74 +37,88 @@ image_once b asked one other (seen, shows, is) (seen', shows', is') =
     by (Ok ss) r s first second = among_once asked (seen_candidates ss) (resources_seen ss) r s first second
     by (Err fault) r s first second = first ∙ sym second
 
-module _ (b : List ℕ) (asked : Request) (relinks : Relinks b asked) where
-  abbrev first : Request
-  first = relinks.first
-
+module _ (b : List ℕ) (source : Source) (first : Request) (was : IsLinkedFrom source first b) where
   abbrev image : LinkedImage
-  image = relinks.image
+  image = was.image
 
   -- the image that was linked is what the layout of its resources is
-  pub laid : IsLaid relinks.first.order (Ok relinks.image)
-  laid = linked_laid relinks.source first image relinks.stands relinks.linked
+  pub laid : IsLaid first.order (Ok was.image)
+  laid = linked_laid source first image was.stands was.linked
 
-  module _ (from : IsMadeFrom relinks.source first image) where
-    abbrev found : List Candidate
-    found = from.found
+  abbrev from : IsMadeFrom source first image
+  from = made_from source first image was.stands was.linked
 
-    abbrev made : IsMade first from.found from.gathered image
-    made = from.made
+  abbrev found : List Candidate
+  found = from.found
 
-    abbrev cs : List Candidate
-    cs = modules_taken first from.found from.gathered image made
+  abbrev made : IsMade first from.found from.gathered image
+  made = from.made
 
-    takes : (c : Candidate) → Contains cs c → Takes relinks.source first (closure.name_of c)
-    takes c there =
-        let at = from_filter_map (slice_get found) made.places c there in
-        (found, from.shows, at.0, (made.closes.4.exactly at.0).0 at.1, (c, at.2, refl))
+  abbrev cs : List Candidate
+  cs = modules_taken first from.found from.gathered image made
 
-    taken_by : (name : List ℕ) → Takes relinks.source first name → (c : Candidate) × Contains cs c × (closure.name_of c ≡ name)
-    taken_by name (others, shown, i, has, (c, is, named)) =
-        let same = from.once others shown in
-        let here : slice_get found i ≡ Some c = subst (λ fs. slice_get fs i ≡ Some c) same is in
-        let chosen : Chosen first.bind found (roots_among found first.roots) i =
-        subst (λ fs. Chosen first.bind fs (roots_among fs first.roots) i) same has in
-        (c, contains_filter_map (slice_get found) made.places i c ((made.closes.4.exactly i).1 chosen) here, named)
+  takes : (c : Candidate) → Contains cs c → Takes source first (closure.name_of c)
+  takes c there =
+      let at = from_filter_map (slice_get found) made.places c there in
+      (found, from.shows, at.0, (made.closes.4.exactly at.0).0 at.1, (c, at.2, refl))
 
-    left_is : relinks.image.resources ≡ made.left
-    left_is = ap (λ (x : LinkedImage). x.resources) made.is
+  taken_by : (name : List ℕ) → Takes source first name → (c : Candidate) × Contains cs c × (closure.name_of c ≡ name)
+  taken_by name (others, shown, i, has, (c, is, named)) =
+      let same = from.once others shown in
+      let here : slice_get found i ≡ Some c = subst (λ fs. slice_get fs i ≡ Some c) same is in
+      let chosen : Chosen first.bind found (roots_among found first.roots) i =
+      subst (λ fs. Chosen first.bind fs (roots_among fs first.roots) i) same has in
+      (c, contains_filter_map (slice_get found) made.places i c ((made.closes.4.exactly i).1 chosen) here, named)
 
-    stands : Stands b made.left
-    stands = subst (Stands b) left_is (subst (λ x. Stands x relinks.image.resources) (sym relinks.made) laid.stands)
+  left_is : was.image.resources ≡ made.left
+  left_is = ap (λ (x : LinkedImage). x.resources) made.is
 
-    infos : (c : Candidate) → Contains cs c → (content : List ℕ) × Contains made.left (info_entry (closure.name_of c), content)
-    infos c there =
-        let named = subst (λ (rs : List Written). Contains (names_of rs) (info_entry (closure.name_of c))) left_is
-        (relinks.infos (closure.name_of c) (takes c there)) in
-        let has = from_map (λ (r : Written). r.0) made.left (info_entry (closure.name_of c)) named in
-        (has.0.1, subst (λ n. Contains made.left (n, has.0.1)) has.2 has.1)
+  stands : Stands b made.left
+  stands = subst (Stands b) left_is (subst (λ x. Stands x was.image.resources) (sym was.made) laid.stands)
 
-    comes : ImageLinksTo b asked (Ok image)
-    comes =
-        links_to b first asked found from.gathered image made relinks.unordered (taken_within first from.found from.gathered image
-        made) from.of stands infos
-        (λ shown shows c there. (relinks.roots shown shows (closure.name_of c)).1 (takes c there))
-        (λ shown shows name has. taken_by name ((relinks.roots shown shows name).0 has))
-        relinks.release relinks.order relinks.plugins
+  infos : (c : Candidate) → Contains cs c → (content : List ℕ) × Contains made.left (info_entry (closure.name_of c), content)
+  infos c there =
+      let named = subst (λ (rs : List Written). Contains (names_of rs) (info_entry (closure.name_of c))) left_is
+      (was.infos (closure.name_of c) (takes c there)) in
+      let has = from_map (λ (r : Written). r.0) made.left (info_entry (closure.name_of c)) named in
+      (has.0.1, subst (λ n. Contains made.left (n, has.0.1)) has.2 has.1)
+
+  -- where the names of all modules that were taken are roots, all are taken
+  pub roots_take : (asked : Request) → first.release ≤ asked.release → ((found : List Candidate) → Shows asked.release (Image b) found
+      → (name : List ℕ) → Takes source first name → Contains (roots_among found asked.roots) name) → (name : List ℕ)
+      → Takes source first name → Takes (Image b) asked name
+  roots_take asked rises rooted name has =
+      let one = taken_by name has in
+      subst (λ n. Takes (Image b) asked n) one.2
+      (roots_taken b first asked found from.gathered image made was.unordered (taken_within first from.found from.gathered image made)
+      from.of stands infos rises (λ shown shows c there. rooted shown shows (closure.name_of c) (takes c there)) one.0 one.1)
+
+module _ (b : List ℕ) (asked : Request) (relinks : Relinks b asked) where
+  abbrev was : IsLinkedFrom relinks.source relinks.first b
+  was = relinks.was
 
   -- the link comes to the same image
-  pub comes_again : ImageLinksTo b asked (Ok relinks.image)
-  comes_again = comes (made_from relinks.source first image relinks.stands relinks.linked)
+  pub comes_again : ImageLinksTo b asked (Ok relinks.was.image)
+  comes_again =
+      let source = relinks.source in
+      let first = relinks.first in
+      let from = made_from source first was.image was.stands was.linked in
+      links_to b first asked from.found from.gathered was.image from.made was.unordered
+      (taken_within first from.found from.gathered was.image from.made) from.of (stands b source first was) (infos b source first was)
+      relinks.release
+      (λ c there. relinks.takes (closure.name_of c) (takes b source first was c there))
+      (λ shown shows name has. taken_by b source first was name (relinks.roots shown shows name has))
+      relinks.order relinks.plugins
 
   pub same_bytes : (image : LinkedImage) → ImageLinksTo b asked (Ok image) → image.bytes ≡ b
   same_bytes image links =
-      let same = same_ok {E = Refusal} image relinks.image (image_once b asked (Ok image) (Ok relinks.image) links comes_again) in
-      ap (λ (x : LinkedImage). x.bytes) same ∙ sym relinks.made
+      let same = same_ok {E = Refusal} image was.image (image_once b asked (Ok image) (Ok was.image) links comes_again) in
+      ap (λ (x : LinkedImage). x.bytes) same ∙ sym was.made
 
   pub never_refused : (refusal : Refusal) → ImageLinksTo b asked (Err refusal) → ⊥
-  never_refused refusal links = not_both (image_once b asked (Err refusal) (Ok relinks.image) links comes_again)
+  never_refused refusal links = not_both (image_once b asked (Err refusal) (Ok was.image) links comes_again)
     where
-      not_both : ◌≡◌ {A = Result LinkedImage Refusal} (Err refusal) (Ok relinks.image) → ⊥
+      not_both : ◌≡◌ {A = Result LinkedImage Refusal} (Err refusal) (Ok was.image) → ⊥
       not_both same = cc
 
 -- relinking gives an image back

@@ -21,6 +21,7 @@ pub mod RelinkedLaws
 pub mod ResourceLaws
 pub mod ResourceNames
 pub mod ResourcesApart
+pub mod RootLaws
 pub mod SaidLaws
 pub mod SeenAgain
 pub mod ShownResources

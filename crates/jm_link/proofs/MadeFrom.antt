@@ -19,7 +19,6 @@ use Rattle.jm_plugins.proofs.NameLaws.{names_kept}
 use Rattle.jm_relink.specs.declared.fault.RelinkFault.{RelinkFault}
 use Rattle.jm_relink.specs.Modules.{ModulesOf, SeenModule}
 use Rattle.jm_relink.proofs.AskedLaws.{visible_in}
-use Rattle.jm_relink.proofs.OnceLaws.{modules_once}
 use Rattle.jm_texts.specs.NameRefusals.{first_bad_name}
 use Rattle.jm_texts.proofs.NameRefusalLaws.{all_sound}
 use Rattle.jm_link.specs.Chosen.{Chosen, roots_among}
@@ -33,7 +32,7 @@ use Rattle.jm_link.proofs.ChosenLaws.{chosen_below}
 use Rattle.jm_link.proofs.ClosedAgain.{taken}
 use Rattle.jm_link.proofs.FileLaws.{free_names, got, no_node, other_name}
 use Rattle.jm_link.proofs.LaidLaws.{laid_free}
-use Rattle.jm_link.proofs.RelinkedLaws.{IsMade, made_parts}
+use Rattle.jm_link.proofs.RelinkedLaws.{IsMade, made_parts, seen_once}
 use Rattle.jm_link.proofs.SeenAgain.{AreOf}
 use Rattle.jm_link.proofs.ShownResources.{image_resources, path_resources}
 
@@ -72,10 +71,6 @@ image_links : (asked : Request) (m : Result (List SeenModule) RelinkFault) (imag
     → (ss : List SeenModule) × (m ≡ Ok ss) × LinksAmong asked (seen_candidates ss) (resources_seen ss) (Ok image)
 image_links asked (Ok ss) linked is = (ss, refl, is)
 image_links asked (Err fault) linked is = cc
-
-seen_once : (release : ℕ) (b : List ℕ) (ss : List SeenModule) → ModulesOf release b (Ok ss) → (others : List Candidate)
-    → Shows release (Image b) others → others ≡ seen_candidates ss
-seen_once release b ss shows others (ss', shows', is) = search (rules, same_ok, modules_once)
 
 from_seen : (b : List ℕ) (asked : Request) (image : LinkedImage) → AreBytes b → (ss : List SeenModule)
     → ModulesOf asked.release b (Ok ss) → LinksAmong asked (seen_candidates ss) (resources_seen ss) (Ok image)

@@ -31,6 +31,7 @@ use Rattle.jm_reader.specs.Walk.{entries_with}
 use Rattle.jm_relink.specs.Files.{info_entry, resources_of}
 use Rattle.jm_relink.specs.Modules.{IsVisibleIn, ModulesOf, SeenModule}
 use Rattle.jm_relink.proofs.ModuleLaws.{resources_differ}
+use Rattle.jm_relink.proofs.OnceLaws.{modules_once}
 use Rattle.jm_names.proofs.KeyLaws.{differ_moved}
 use Rattle.jm_texts.specs.declared.refusal.Refusal.{Refusal}
 use Rattle.jm_texts.specs.declared.refusal.Refusal.TheVariants as refusal
@@ -38,10 +39,10 @@ use Rattle.jm_link.specs.Chosen.{Chosen, is_called, reserved, roots_among}
 use Rattle.jm_link.specs.ImageLinked.{ImageLinksTo, resources_seen, seen_candidates, seen_resources}
 use Rattle.jm_link.specs.Linked.{IsClosedTo, IsFoundTo, IsGatheredTo, IsLinkedOf, IsPluggedTo, LinkedImage}
 use Rattle.jm_link.specs.Linked.{LinksAmong, PlugsTo, Request, image_with, laid_out, layout_refusal}
-use Rattle.jm_link.specs.Relinked.{Shows, leaves_order}
+use Rattle.jm_link.specs.Relinked.{Shows, Takes, leaves_order}
 use Rattle.jm_link.specs.Relinked.Source.{Image}
 use Rattle.jm_texts.specs.NameRefusals.{first_bad_name, name_refusal}
-use Rattle.jm_link.proofs.ClosedAgain.{chosen_further, closes_again, found_again, taken}
+use Rattle.jm_link.proofs.ClosedAgain.{chosen_further, closes_again, found_again, place_again, root_chosen, taken}
 use Rattle.jm_link.proofs.FileLaws.{free_names, got}
 use Rattle.jm_link.proofs.FileOrder.{IsFirstOrOne}
 use Rattle.jm_link.proofs.KeptLaws.{AreKept, applied}
@@ -166,6 +167,11 @@ count_taken xs (p ∷ places) within =
 
 -- Once more
 
+-- an image shows one list of modules
+pub seen_once : (release : ℕ) (b : List ℕ) (ss : List SeenModule) → ModulesOf release b (Ok ss) → (others : List Candidate)
+    → Shows release (Image b) others → others ≡ seen_candidates ss
+seen_once release b ss shows others (ss', shows', is) = search (rules, same_ok, modules_once)
+
 module _ (b : List ℕ) (first asked : Request) (found : List Candidate) (gathered : List ℕ → List Written) (image : LinkedImage)
     (made : IsMade first found gathered image) (unordered : All (λ one. leaves_order one ≡ true) first.plugins) (within : (i : ℕ)
     → Contains made.places i → i < length found) where
@@ -176,12 +182,8 @@ module _ (b : List ℕ) (first asked : Request) (found : List Candidate) (gather
   cs = taken found Taken made.places made.closes.4 within
 
   module _ (of : AreOf first.release cs (gathered made.places)) (stands : Stands b made.left) (infos : (c : Candidate) → Contains cs c
-      → (content : List ℕ) × Contains made.left (info_entry (closure.name_of c), content)) (rooted : (shown : List Candidate)
-      → Shows asked.release (Image b) shown → (c : Candidate) → Contains cs c → Contains (roots_among shown asked.roots)
-      (closure.name_of c)) (only : (shown : List Candidate) → Shows asked.release (Image b) shown → (name : List ℕ)
-      → Contains (roots_among shown asked.roots) name → (c : Candidate) × Contains cs c × (closure.name_of c ≡ name))
-      (rises : first.release ≤ asked.release)
-      (order : asked.order ≡ first.order) (plugins : asked.plugins ≡ []) where
+      → (content : List ℕ) × Contains made.left (info_entry (closure.name_of c), content))
+      (rises : first.release ≤ asked.release) where
     kept : AreKept first.release IsFirstOrOne (gathered made.places) made.left
     kept = applied first.release IsFirstOrOne first.plugins (gathered made.places) made.left unordered made.plugged
 
@@ -219,11 +221,19 @@ module _ (b : List ℕ) (first asked : Request) (found : List Candidate) (gather
     abbrev roots : List (List ℕ)
     roots = roots_among others asked.roots
 
-    closes : Closes others roots (Chosen asked.bind others roots) (Ok all)
-    closes =
-        closes_again found Taken made.places made.closes.4 within again (λ c. refl) (only_packages first.release cs made.left are apart)
-        roots (rooted others shown) (only others shown) asked.bind made.closes.1 made.closes.2 made.closes.3
-        (λ i j has requires. chosen_further first.bind found (roots_among found first.roots) i j has requires)
+    -- modules whose names are roots are taken
+    pub roots_taken : ((found : List Candidate) → Shows asked.release (Image b) found → (c : Candidate) → Contains cs c
+        → Contains (roots_among found asked.roots) (closure.name_of c)) → (c : Candidate) → Contains cs c
+        → Takes (Image b) asked (closure.name_of c)
+    roots_taken rooted c there =
+        let at = place_again found Taken made.places made.closes.4 within again (λ c. refl) (only_packages first.release cs made.left
+        are apart) c there in (
+          others,
+          shown,
+          at.0,
+          root_chosen asked.bind others roots at.0 (closure.name_of c, rooted others shown c there, at.1),
+          at.1,
+        )
 
     free : reserved others ≡ None
     free = free_again found others
@@ -242,27 +252,50 @@ module _ (b : List ℕ) (first asked : Request) (found : List Candidate) (gather
     count : length all ≡ length made.places
     count = length-range_with_len 0 (length others) ∙ length-map cs again ∙ count_taken found made.places within
 
-    laid_again : ◌≡◌ {A = Result LinkedImage Refusal} (Ok image) (laid_out asked.order (length all) made.left
-        (layout_refusal asked.order made.left))
-    laid_again =
-        ap (λ x. Ok x) made.is
-        ∙ sym (ap (λ o. laid_out o (length all) made.left (layout_refusal o made.left)) order
-        ∙ ap (λ n. laid_out first.order n made.left (layout_refusal first.order made.left)) count
-        ∙ ap (laid_out first.order (length made.places) made.left) made.fits)
+    module _ (every : (c : Candidate) → Contains cs c → Takes (Image b) asked (closure.name_of c)) (only : (shown : List Candidate)
+        → Shows asked.release (Image b) shown → (name : List ℕ) → Contains (roots_among shown asked.roots) name → (c : Candidate)
+        × Contains cs c × (closure.name_of c ≡ name)) (order : asked.order ≡ first.order) (plugins : asked.plugins ≡ []) where
+      -- each module that was taken is chosen
+      chosen_too : (c : Candidate) → Contains cs c → (k : ℕ) × Chosen asked.bind others roots k
+          × closure.HasName others k (closure.name_of c)
+      chosen_too c there = go (every c there)
+        where
+          go : Takes (Image b) asked (closure.name_of c) → (k : ℕ) × Chosen asked.bind others roots k
+              × closure.HasName others k (closure.name_of c)
+          go (others', shows, k, chosen, named) =
+              let same : others' ≡ others = seen_once asked.release b ss modules_held others' shows ∙ same_found in (
+                k,
+                subst (λ fs. Chosen asked.bind fs (roots_among fs asked.roots) k) same chosen,
+                subst (λ fs. closure.HasName fs k (closure.name_of c)) same named,
+              )
 
-    plugged_again : PlugsTo asked (length all) made.left (Ok image)
-    plugged_again = (Ok made.left, subst (λ ps. Applies asked.release ps made.left (Ok made.left)) (sym plugins) refl, laid_again)
+      closes : Closes others roots (Chosen asked.bind others roots) (Ok all)
+      closes =
+          closes_again found Taken made.places made.closes.4 within again (λ c. refl) (only_packages first.release cs made.left are apart)
+          roots asked.bind chosen_too (only others shown) made.closes.1 made.closes.2 made.closes.3
+          (λ i j has requires. chosen_further first.bind found (roots_among found first.roots) i j has requires)
 
-    gathered_to : IsGatheredTo asked (length all) (resources_seen ss all) (first_bad_name (resources_seen ss all)) (Ok image)
-    gathered_to =
-        subst (λ rs. IsGatheredTo asked (length all) rs (first_bad_name rs) (Ok image)) (sym gathered_again)
-        (subst (λ o. IsGatheredTo asked (length all) made.left o (Ok image))
-        (sym (sound_again first.release (gathered made.places) made.left kept made.sound)) plugged_again)
+      laid_again : ◌≡◌ {A = Result LinkedImage Refusal} (Ok image) (laid_out asked.order (length all) made.left
+          (layout_refusal asked.order made.left))
+      laid_again =
+          ap (λ x. Ok x) made.is
+          ∙ sym (ap (λ o. laid_out o (length all) made.left (layout_refusal o made.left)) order
+          ∙ ap (λ n. laid_out first.order n made.left (layout_refusal first.order made.left)) count
+          ∙ ap (laid_out first.order (length made.places) made.left) made.fits)
 
-    links_again : LinksAmong asked (seen_candidates ss) (resources_seen ss) (Ok image)
-    links_again =
-        subst (λ fs. LinksAmong asked fs (resources_seen ss) (Ok image)) (sym same_found)
-        (subst (λ o. IsFoundTo asked others (resources_seen ss) o (Ok image)) (sym free) (Ok all, closes, gathered_to))
+      plugged_again : PlugsTo asked (length all) made.left (Ok image)
+      plugged_again = (Ok made.left, subst (λ ps. Applies asked.release ps made.left (Ok made.left)) (sym plugins) refl, laid_again)
 
-    pub links_to : ImageLinksTo b asked (Ok image)
-    links_to = (Ok ss, modules_held, links_again)
+      gathered_to : IsGatheredTo asked (length all) (resources_seen ss all) (first_bad_name (resources_seen ss all)) (Ok image)
+      gathered_to =
+          subst (λ rs. IsGatheredTo asked (length all) rs (first_bad_name rs) (Ok image)) (sym gathered_again)
+          (subst (λ o. IsGatheredTo asked (length all) made.left o (Ok image))
+          (sym (sound_again first.release (gathered made.places) made.left kept made.sound)) plugged_again)
+
+      links_again : LinksAmong asked (seen_candidates ss) (resources_seen ss) (Ok image)
+      links_again =
+          subst (λ fs. LinksAmong asked fs (resources_seen ss) (Ok image)) (sym same_found)
+          (subst (λ o. IsFoundTo asked others (resources_seen ss) o (Ok image)) (sym free) (Ok all, closes, gathered_to))
+
+      pub links_to : ImageLinksTo b asked (Ok image)
+      links_to = (Ok ss, modules_held, links_again)

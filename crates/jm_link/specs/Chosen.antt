@@ -1,12 +1,13 @@
 -- Which of the modules found are linked (JEP 282; the word for all of them is that of `jlink`), and
 -- the names that none of them may have (this project's rule).
-use Rattle.std.specs.Prelude.{ℕ, nat_lt, Bool, true, false, not, ◌&&◌, List, [], ◌∷◌, ◌++◌}
+use Rattle.std.specs.Prelude.{ℕ, ◌≡◌, ◌⊎◌, nat_lt, Bool, true, false, IsTrue, not, ◌&&◌, List, []}
+use Rattle.std.specs.Prelude.{◌∷◌, ◌++◌, Contains}
 use Rattle.std.specs.Prelude.{filter, find, length, map, codes, Option, option_map, if◌then◌else◌}
 use Rattle.std.specs.List.{list_any}
 use Rattle.std.specs.Str.{bytes_eq}
 use Rattle.jm_bind.specs.Binding.{Bound}
 use Rattle.jm_closure.specs.declared.candidate.Candidate.{Candidate}
-use Rattle.jm_closure.specs.Modules.{Reached, name_of}
+use Rattle.jm_closure.specs.Modules.{IsFound, Reached, name_of}
 use Rattle.jm_texts.specs.declared.refusal.Refusal.{Refusal}
 use Rattle.jm_texts.specs.declared.refusal.Refusal.TheVariants as refusal
 
@@ -27,6 +28,13 @@ asks_all found asked = nat_lt 0 (length found) && list_any is_all asked
 abbrev pub roots_among : List Candidate → List (List ℕ) → List (List ℕ)
 roots_among found asked =
     if asks_all found asked then plain_names asked ++ map name_of found else asked
+
+-- the rule: a name is a root: it is asked for, and isn't the word where there is a module; or the
+-- word is asked for, and a module has the name
+abbrev pub IsRootName : List Candidate → List (List ℕ) → List ℕ → Type 0
+IsRootName found asked name =
+    (Contains asked name × (IsTrue (is_all name) → found ≡ []))
+    ⊎ (Contains asked (codes "ALL-MODULE-PATH") × IsFound found name)
 
 -- the modules that are linked, by their places among those found: with service binding those that
 -- are bound, else those that are reached

@@ -1,6 +1,6 @@
--- Relinking: what is linked of the image that a link made, of all its modules and without plug-ins,
--- is that image (this project's rule).
-use Rattle.std.specs.Prelude.{ℕ, ◌≡◌, ◌≤◌, ◌↔◌, Bool, true, false, List, [], All, Contains}
+-- Relinking: what is linked of the image that a link made, with all its modules and without
+-- plug-ins, is that image (this project's rule).
+use Rattle.std.specs.Prelude.{ℕ, ◌≡◌, ◌≤◌, Bool, true, false, List, [], All, Contains}
 use Rattle.std.specs.Prelude.{Option, Some, Result, Ok, Err}
 use Rattle.jm_closure.specs.declared.candidate.Candidate.{Candidate}
 use Rattle.jm_closure.specs.Modules.{HasName}
@@ -66,22 +66,26 @@ leaves_order plugin.Compact = true
 leaves_order plugin.Packages = true
 leaves_order plugin.DropSystemModules = true
 
--- a link made these bytes of what stands on a shelf, without an order of resources, and the
--- descriptor of each module that it took stands in them; what is asked for is these modules, by
--- their names or by the word for all that the bytes show, in the same byte order and no plug-in,
--- with that link's release or a later one
-pub record Relinks (b : List ℕ) (asked : Request) : Type 0 where
-  pub source : Source
+-- a link of a source made these bytes of what stands on a shelf, without an order of resources, and
+-- the descriptor of each module that it took stands in them
+pub record IsLinkedFrom (source : Source) (first : Request) (b : List ℕ) : Type 0 where
   pub stands : IsOnShelf source
-  pub first : Request
   pub image : LinkedImage
   pub linked : LinksFrom source first (Ok image)
   pub made : b ≡ image.bytes
   pub unordered : All (λ one. leaves_order one ≡ true) first.plugins
   pub infos : (name : List ℕ) → Takes source first name
       → Contains (names_of image.resources) (info_entry name)
+
+-- a link made these bytes; what is asked for names none but the modules that it took, and takes all
+-- of them, in the same byte order and with no plug-in, with that link's release or a later one
+pub record Relinks (b : List ℕ) (asked : Request) : Type 0 where
+  pub source : Source
+  pub first : Request
+  pub was : IsLinkedFrom source first b
   pub roots : (found : List Candidate) → Shows asked.release (Image b) found
-      → (name : List ℕ) → Contains (roots_among found asked.roots) name ↔ Takes source first name
+      → (name : List ℕ) → Contains (roots_among found asked.roots) name → Takes source first name
+  pub takes : (name : List ℕ) → Takes source first name → Takes (Image b) asked name
   pub release : first.release ≤ asked.release
   pub order : asked.order ≡ first.order
   pub plugins : asked.plugins ≡ []
