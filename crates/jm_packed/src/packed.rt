@@ -1,15 +1,17 @@
 //! The content of an entry whose row has a compressed size.
-ghost use Rattle.std.specs.Prelude.{◌≡◌, ◌≤◌, ◌<◌, ◌+◌, ◌^◌, ℕ, length};
+ghost use Rattle.std.specs.Prelude.{◌≡◌, ◌≤◌, ◌<◌, ◌+◌, ◌^◌, ℕ, Some, length};
 ghost use Rattle.jm_bytes.specs.Results.{IfAnswered};
 ghost use Rattle.jm_inflate.specs.declared.zlib_streams.ZlibFault.TheVariants.{Stream};
 ghost use Rattle.jm_packed.specs.Packed.{header_fault, is_header, is_zip, long, stream_fault};
 ghost use Rattle.jm_packed.specs.Packed.{ContentComes, Unpacks};
+ghost use Rattle.jm_packed.specs.PackedText.{packed_fault_text};
 
 use byteorder::{BigEndian, ByteOrder, LittleEndian};
 use jm_bytes::{Or, Order, Text, word_at};
 use jm_form::{Row, front};
 use jm_inflate::{ZlibFault, zlib};
 use std::alloc::Global;
+use std::fmt;
 
 /// The first four bytes of a compressed content, as a word in the image's byte order.
 const MAGIC: u32 = 0xCAFE_FAFA;
@@ -31,6 +33,21 @@ pub enum PackedFault {
     Stream(usize),
     /// The Adler-32 of the stream isn't that of the bytes that it gives.
     Check,
+}
+
+/// The kind and its number, as `Stream 61`.
+impl fmt::Display for PackedFault {
+    ghost output = { λ fault. Some (packed_fault_text fault) };
+
+    fn fmt<W: fmt::Write>(&self, f: &mut fmt::Formatter<W>) -> fmt::Result {
+        match *self {
+            PackedFault::Header => write!(f, "Header"),
+            PackedFault::Decompressor => write!(f, "Decompressor"),
+            PackedFault::Size => write!(f, "Size"),
+            PackedFault::Stream(at) => write!(f, "Stream {at}"),
+            PackedFault::Check => write!(f, "Check"),
+        }
+    }
 }
 
 /// The number of the eight bytes at a place.
