@@ -17,6 +17,7 @@ pub mod SessionEnds
 pub mod SessionSteps
 pub mod TakenLaws
 pub mod ServeErrors
+pub mod TellsLaws
 pub mod ToldLaws
 mod TreeCases
 mod TreeContents

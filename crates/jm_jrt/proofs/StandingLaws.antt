@@ -176,7 +176,7 @@ module _ (b path : List ℕ) where
       at_slash false is = at_root (is_root path) refl is
 
 -- a content is that of a node of bytes that have a header
-node_header : (b : List ℕ) (node : Option (List ℕ)) (content : List ℕ) → content_in (option_and_then (look b) node) ≡ Some content
+pub node_header : (b : List ℕ) (node : Option (List ℕ)) (content : List ℕ) → content_in (option_and_then (look b) node) ≡ Some content
     → (h : Header) × (header_of b ≡ Ok h)
 node_header b None content e = cc
 node_header b (Some name) content e = go (look b name) refl e

@@ -1,6 +1,6 @@
 -- What stands at a path of the two trees of an image (JEP 220: the `jrt` file system; the answers
 -- are this project's rule).
-use Rattle.std.specs.Prelude.{ℕ, nat_eq, Bool, ◌&&◌, ◌||◌, not, List, [], ◌∷◌, drop, filter, codes}
+use Rattle.std.specs.Prelude.{◌≡◌, ℕ, nat_eq, Bool, true, ◌&&◌, ◌||◌, not, List, [], ◌∷◌, drop, filter, codes}
 use Rattle.std.specs.Prelude.{Option, Some, None, option_and_then, option_map, is_none, is_some}
 use Rattle.std.specs.Prelude.{Result, Ok, Err}
 use Rattle.std.specs.Prelude.{if◌then◌else◌}
@@ -21,7 +21,7 @@ use Rattle.jm_jrt.specs.declared.jrt_error.JrtError.{JrtError}
 use Rattle.jm_jrt.specs.declared.jrt_error.JrtError.TheVariants.{NotThere, NotFolder}
 use Rattle.jm_jrt.specs.declared.words.Form.{Form}
 use Rattle.jm_jrt.specs.declared.words.Form.TheVariants as form
-use Rattle.jm_jrt.specs.Told.{bad_word, children_told, owners_told}
+use Rattle.jm_jrt.specs.Told.{bad_word, children_told, owners_told, Tells}
 
 -- what look-up gives: a row and a content
 abbrev Sought : Type 0
@@ -181,3 +181,26 @@ owner_read b path (Ok h) = owner_with b path
 -- the first owner of a package that isn't empty there; only the path of a package is there
 abbrev pub owner : List ℕ → List ℕ → Result (Option (List ℕ)) JrtError
 owner b path = owner_read b path (header_of b)
+
+-- The rule
+
+-- what stands at a path of which the content of its node tells this: a folder or a package, or the
+-- link to one of the owners that are told
+abbrev pub shown_by : List ℕ → Result Holds JrtError → Result TreeItem JrtError
+shown_by path told =
+    if has_children path || is_package path then folder told
+    else link (after_last is_slash path) told
+
+-- the rule: where a node says what stands at a path, that is what its content tells
+abbrev pub IsToldAt : List ℕ → List ℕ → Result TreeItem JrtError → Type 0
+IsToldAt b path item =
+    (content : List ℕ) (told : Result Holds JrtError) → node_content b path ≡ Some content
+    → Tells b content (form_of path) told → item ≡ shown_by path told
+
+-- the rule: the first full owner of the package at a path is that of the owners that the content of
+-- its node tells
+abbrev pub IsOwnerToldAt : List ℕ → List ℕ → Result (Option (List ℕ)) JrtError → Type 0
+IsOwnerToldAt b path owner =
+    (content : List ℕ) (told : Result Holds JrtError) → is_package path ≡ true
+    → node_content b path ≡ Some content → Tells b content form.Owners told
+    → owner ≡ full_among told

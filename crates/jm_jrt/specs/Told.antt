@@ -1,8 +1,8 @@
 -- What the content of a node tells, and where it is bad (jimage 1.0 for the nodes; what is bad is
 -- this project's rule).
-use Rattle.std.specs.Prelude.{ℕ, ◌+◌, ◌-◌, ◌*◌, ◌/◌, ◌%◌, ◌==◌, nat_lt, Bool, false, ◌&&◌, not}
-use Rattle.std.specs.Prelude.{List, length, map}
-use Rattle.std.specs.Prelude.{Option, Some, None, option_map, Result, unwrap_or, if◌then◌else◌}
+use Rattle.std.specs.Prelude.{◌≡◌, ℕ, ◌+◌, ◌-◌, ◌*◌, ◌/◌, ◌%◌, ◌<◌, ◌==◌, nat_lt, Bool, true, false}
+use Rattle.std.specs.Prelude.{◌&&◌, not, List, length, map, Option, Some, None, option_map}
+use Rattle.std.specs.Prelude.{Result, Ok, Err, unwrap_or, if◌then◌else◌}
 use Rattle.std.specs.List.{range_with_len}
 use Rattle.jm_bytes.specs.Checks.{fault_if, first_fault, unless_fault}
 use Rattle.jm_bytes.specs.Word.{word}
@@ -146,3 +146,31 @@ all_told b content form.Owners = Owners (owners_left b content 0)
 abbrev pub told_in : List ℕ → List ℕ → Form → Result Holds JrtError
 told_in b content form.Children = children_told b content
 told_in b content form.Owners = owners_told b content
+
+-- The rule
+
+-- the least word of a content of this form that isn't as it must be stands at this place
+pub record HasBadWord (b content : List ℕ) (form : Form) (at : ℕ) : Type 0 where
+  pub k : ℕ
+  pub place : at ≡ 4 * k
+  pub read : k < words_read content form
+  pub bad : is_word_sound b content form k ≡ false
+  pub before : (j : ℕ) → j < k → is_word_sound b content form j ≡ true
+
+-- each word of a content of this form is as it must be
+abbrev pub HasNoBadWord : List ℕ → List ℕ → Form → Type 0
+HasNoBadWord b content form =
+    (k : ℕ) → k < words_read content form → is_word_sound b content form k ≡ true
+
+-- the place of the least bad word, or none where there is no bad word
+abbrev pub IsBadWord : List ℕ → List ℕ → Form → Option ℕ → Type 0
+IsBadWord b content form (Some at) = HasBadWord b content form at
+IsBadWord b content form None = HasNoBadWord b content form
+
+-- the rule: a content of this form tells what all its words tell, where none is bad, and else
+-- `BadNode` with the place of the least bad one
+abbrev pub Tells : List ℕ → List ℕ → Form → Result Holds JrtError → Type 0
+Tells b content form (Ok holds) =
+    HasNoBadWord b content form × (holds ≡ all_told b content form)
+Tells b content form (Err error) =
+    (at : ℕ) × (error ≡ BadNode at) × HasBadWord b content form at

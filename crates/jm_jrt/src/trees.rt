@@ -10,6 +10,7 @@ ghost use Rattle.jm_reader.specs.Walk.{IsLater};
 ghost use Rattle.jm_jrt.specs.Nodes.{IsOf, item_as, on_ok, StatCosts};
 ghost use Rattle.jm_jrt.specs.Standings.{IsIn, StandingCosts, standing_as, whole};
 ghost use Rattle.jm_jrt.specs.Stat as answers;
+ghost use Rattle.jm_jrt.specs.Told.{IsBadWord};
 ghost use Rattle.jm_jrt.specs.TreesShown.{IsItemOfTrees, IsOwnerOfTrees};
 ghost use Rattle.jm_jrt.specs.Views.{held_by};
 
@@ -82,6 +83,8 @@ pub fn node_fault<R: Ledger>(
     requires { reads.old.bytes ≡ index.now.bytes }
     ensures place { (b : List ℕ) → IsFileOf index.now.bytes index.now.length b
         → result ≡ answers.node_fault b name.now content.now }
+    ensures rule { (b : List ℕ) → IsFileOf index.now.bytes index.now.length b
+        → IsBadWord b content.now (answers.form_of name.now) result }
     ensures reads { IsLater reads.old reads.new }
 {
     let _header = index.header();
@@ -228,6 +231,7 @@ fn stands_at<'a, H: Ledger, R: Ledger>(
     requires { reads.old.bytes ≡ image.now }
     ensures item { standing_as image.now result ≡ answers.stat image.now path.now }
     ensures trees { IsItemOfTrees image.now path.now (standing_as image.now result) }
+    ensures told { answers.IsToldAt image.now path.now (standing_as image.now result) }
     ensures within { IfOk result (IsIn (whole image.now)) }
     ensures hashes { RisesAtMost hashes.old hashes.new 4 }
     ensures reads { StandingCosts result false (2 * length path.now + 152) reads.old reads.new }
@@ -296,6 +300,8 @@ pub fn owner<'a, H: Ledger, R: Ledger>(
     ensures owner { on_ok (λ name. option_map (λ n. n.now) name) result
         ≡ answers.owner image.now path.now }
     ensures trees { IsOwnerOfTrees image.now path.now
+        (on_ok (λ name. option_map (λ n. n.now) name) result) }
+    ensures told { answers.IsOwnerToldAt image.now path.now
         (on_ok (λ name. option_map (λ n. n.now) name) result) }
     ensures hashes { RisesAtMost hashes.old hashes.new 2 }
     ensures reads { IsLater reads.old reads.new }

@@ -1,4 +1,4 @@
-use Rattle.std.proofs.Common.{◌≡◌, Some, None, ap, option_map, sym, ◌∙◌}
+use Rattle.std.proofs.Common.{◌≡◌, Some, ap, option_map, sym, ◌∙◌}
 use Rattle.jm_jrt.specs.declared.jrt_error.JrtError.TheVariants.{BadNode}
 use Rattle.jm_jrt.specs.Told.{fault_of}
 use Rattle.jm_jrt.proofs.FileLaws.{all_is_told, fault_is_told, file_told}
