@@ -6,6 +6,7 @@ use crate::containers::{told_header, told_row, told_spelling};
 use crate::generated::told_sum;
 use crate::names::{told_check, told_forms, told_hash, told_node, told_package, told_pieces};
 use crate::nodes::told_nodes;
+use crate::packed::{told_inflated, told_unzipped};
 use crate::patterns::{told_fault, told_first, told_match};
 use crate::plans::{told_fronts, told_plan};
 use crate::plugins::told_applied;
@@ -39,7 +40,7 @@ fn texts_in(alloc: Global, known: &Known, rest: &str) -> Result<Option<Vec<Vec<u
 }
 
 /// The one number that a text is.
-fn number_in(alloc: Global, text: &[u8]) -> Result<Option<u64>, AllocError> {
+pub fn number_in(alloc: Global, text: &[u8]) -> Result<Option<u64>, AllocError> {
     let numbers = numbers_of(alloc, text)?;
     Ok(numbers.and_then(|numbers| numbers.first().copied()))
 }
@@ -99,6 +100,8 @@ fn told_by_words(alloc: Global, verb: &str, texts: &[&[u8]]) -> Result<Option<St
         ("spell", [numbers]) => told_spelling(alloc, numbers),
         ("table", names) => told_table(alloc, names),
         ("sum", [numbers]) => told_sum(alloc, numbers),
+        ("inflate", [limit, bytes]) => told_inflated(alloc, limit, bytes),
+        ("zlib", [size, bytes]) => told_unzipped(alloc, size, bytes),
         ("words", [words]) => Ok(Some(told_words(alloc, words_in(words))?)),
         ("close", [roots, modules]) => {
             let told = told_closure(alloc, words_in(roots), words_in(modules))?;

@@ -12,6 +12,7 @@ mod generated;
 mod lines;
 mod names;
 mod nodes;
+mod packed;
 mod patterns;
 mod plans;
 mod plugins;
