@@ -1,5 +1,5 @@
 -- Relinking gives back the image that a link made, wherever that took its modules from.
-use Rattle.std.proofs.Common.{◌≡◌, ℕ, List, Contains, Some, slice_get, Result, Ok, Err, refl, sym, ap, subst, ◌∙◌}
+use Rattle.std.proofs.Common.{◌≡◌, ◌≤◌, ℕ, List, Contains, Some, slice_get, Result, Ok, Err, refl, sym, ap, subst, ◌∙◌}
 use Rattle.jm_bytes.proofs.Choice.{same_ok}
 use Rattle.jm_bytes.proofs.Members.{contains_filter_map, from_filter_map, from_map}
 use Rattle.jm_closure.specs.declared.candidate.Candidate.{Candidate}

@@ -1,7 +1,8 @@
 -- The roots of a link: which names they are, and that the word for all modules takes all of them.
 use Rattle.std.proofs.Common.{◌≡◌, ◌↔◌, ◌⊎◌, inl, inr, ℕ, ◌<◌, Bool, true, false, not, ◌&&◌, cond, List, [], ◌∷◌, ◌++◌, length, map, codes}
 use Rattle.std.proofs.Common.{Contains, refl, sym, ap, ◌∙◌, subst, arith}
-use Rattle.std.proofs.lemmas.Bool.{false≢true, ltb-false, ltb-true}
+use Rattle.std.proofs.lemmas.Bool.{false≢true}
+use Rattle.std.proofs.lemmas.Bool.Decides.{nat_tests}
 use Rattle.std.proofs.lemmas.List.Elements.{Contains-append_cases, Contains-append_left, Contains-append_right}
 use Rattle.std.proofs.lemmas.Slice.Eq.{bytes_eq-Decides}
 use Rattle.std.specs.List.{list_any}
@@ -22,15 +23,18 @@ plain : (b : Bool) → not b ≡ true → b ≡ true → ⊥
 plain true kept is = false≢true kept
 plain false kept is = false≢true is
 
+some : (c : Candidate) (found : List Candidate) → nat_lt 0 (length (c ∷ found)) ≡ true
+some c found = grind (arith, nat_tests)
+
 none : (found : List Candidate) (b : Bool) → b ≡ true → (nat_lt 0 (length found) && b) ≡ false → found ≡ []
 none [] b is off = refl
-none (c ∷ found) b is off = absurd (false≢true (sym off ∙ rw is refl))
+none (c ∷ found) b is off = absurd (false≢true (sym off ∙ rw (some c found, is) refl))
 
 asked_for : (found : List Candidate) (asked : List (List ℕ)) (name : List ℕ) → Contains asked (codes "ALL-MODULE-PATH")
     → Contains (map name_of found) name → asks_all found asked ≡ true
 asked_for [] asked name word shown = absurd (contains_none name shown)
 asked_for (c ∷ found) asked name word shown =
-    rw (any_contains is_all asked (codes "ALL-MODULE-PATH") word ((bytes_eq-Decides (codes "ALL-MODULE-PATH")
+    rw (some c found, any_contains is_all asked (codes "ALL-MODULE-PATH") word ((bytes_eq-Decides (codes "ALL-MODULE-PATH")
     (codes "ALL-MODULE-PATH")).1 refl)) refl
 
 module _ (found : List Candidate) (asked : List (List ℕ)) (name : List ℕ) where
