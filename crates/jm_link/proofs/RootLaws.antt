@@ -34,8 +34,11 @@ asked_for : (found : List Candidate) (asked : List (List ℕ)) (name : List ℕ)
     → Contains (map name_of found) name → asks_all found asked ≡ true
 asked_for [] asked name word shown = absurd (contains_none name shown)
 asked_for (c ∷ found) asked name word shown =
-    rw (some c found, any_contains is_all asked (codes "ALL-MODULE-PATH") word ((bytes_eq-Decides (codes "ALL-MODULE-PATH")
-    (codes "ALL-MODULE-PATH")).1 refl)) refl
+    rw (
+      some c found,
+      any_contains is_all asked (codes "ALL-MODULE-PATH") word ((bytes_eq-Decides (codes "ALL-MODULE-PATH")
+          (codes "ALL-MODULE-PATH")).1 refl),
+    ) refl
 
 module _ (found : List Candidate) (asked : List (List ℕ)) (name : List ℕ) where
   root_is : (b : Bool) → asks_all found asked ≡ b → Contains (cond b (plain_names asked ++ map name_of found) asked) name
