@@ -8,6 +8,7 @@ use Rattle.jm_modinfo.specs.FaultText.{descriptor_fault_text}
 use Rattle.jm_names.specs.Shown.{shown, shown_text}
 use Rattle.jm_names.specs.declared.check.NameFault.{NameFault}
 use Rattle.jm_names.specs.declared.check.NameFault.TheVariants as fault_of
+use Rattle.jm_packed.specs.PackedText.{packed_fault_text}
 use Rattle.jm_texts.specs.declared.refusal.Refusal.{Refusal}
 use Rattle.jm_texts.specs.declared.refusal.Refusal.TheVariants as refusal
 
@@ -46,3 +47,5 @@ refusal_text (refusal.Clash name) = codes "Clash" ++ spaced name
 refusal_text (refusal.TooMany count) = codes "TooMany " ++ decimal count
 refusal_text (refusal.NoTable lengths) = codes "NoTable " ++ decimal lengths
 refusal_text (refusal.TooLarge length) = codes "TooLarge " ++ decimal length
+refusal_text (refusal.Packed name fault) =
+    codes "Packed" ++ spaced name ++ 32 ∷ packed_fault_text fault

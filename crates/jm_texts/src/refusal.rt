@@ -2,6 +2,7 @@ use jm_bytes::Text;
 use jm_class::ClassFault;
 use jm_modinfo::DescriptorFault;
 use jm_names::NameFault;
+use jm_packed::PackedFault;
 
 /// Why a command refuses its input (status 3). Names are as they stand in the image, paths of files
 /// as they are.
@@ -60,4 +61,9 @@ pub enum Refusal {
     NoTable(u32),
     /// The image would have that many bytes; 0 where its strings alone are too many.
     TooLarge(u64),
+    /// The content of this resource of a compressed image can't be had.
+    Packed {
+        name: Text,
+        fault: PackedFault,
+    },
 }

@@ -4,6 +4,7 @@ ghost use Rattle.std.specs.Fmt.{decimal};
 ghost use Rattle.jm_class.specs.FaultText.{class_fault_text};
 ghost use Rattle.jm_modinfo.specs.FaultText.{descriptor_fault_text};
 ghost use Rattle.jm_names.specs.Shown.{shown_text};
+ghost use Rattle.jm_packed.specs.PackedText.{packed_fault_text};
 ghost use Rattle.jm_texts.specs.RefusalText.{name_fault_text, refusal_text, spaced};
 
 use crate::refusal::Refusal;
@@ -12,6 +13,7 @@ use jm_bytes::{NoMemory, Text, copy_of, extend};
 use jm_class::ClassFault;
 use jm_modinfo::DescriptorFault;
 use jm_names::{NameFault, extend_shown, extend_shown_text};
+use jm_packed::PackedFault;
 use std::alloc::Global;
 
 /// Puts a name after a space at the end, as it is shown.
@@ -101,6 +103,17 @@ fn bad_class(alloc: Global, name: &Text, fault: ClassFault) -> Result<Vec<u8>, N
     Ok(text)
 }
 
+/// The kind `Packed`, a name and the fault of the content stored there.
+fn packed(alloc: Global, name: &Text, fault: PackedFault) -> Result<Vec<u8>, NoMemory>
+    ensures { IfOk result (λ text. text.items
+        ≡ codes "Packed" ++ spaced name.now ++ 32 ∷ packed_fault_text fault) }
+{
+    let fault = format!(in alloc; " {fault}")?;
+    let mut text = named(alloc, b"Packed", name)?;
+    extend(&mut text, fault.as_bytes())?;
+    Ok(text)
+}
+
 /// A kind and two names.
 fn two_named(alloc: Global, kind: &[u8], name: &Text, other: &Text) -> Result<Vec<u8>, NoMemory>
     ensures { IfOk result (λ text. text.items ≡ kind.now ++ spaced name.now ++ spaced other.now) }
@@ -145,6 +158,7 @@ impl Refusal {
             Refusal::TooMany(count) => numbered(alloc, b"TooMany ", *count),
             Refusal::NoTable(lengths) => numbered(alloc, b"NoTable ", u64::from(*lengths)),
             Refusal::TooLarge(length) => numbered(alloc, b"TooLarge ", *length),
+            Refusal::Packed { name, fault } => packed(alloc, name, *fault),
         }
     }
 }
