@@ -132,6 +132,16 @@ digests_of_some = refl
 nodes_twice : command_in (codes "verify" ∷ codes "--nodes" ∷ codes "img" ∷ codes "--nodes" ∷ []) ≡ fault_at 4 kind.Repeated
 nodes_twice = refl
 
+image_decompressed : command_in (codes "decompress" ∷ codes "--output=o" ∷ codes "img" ∷ codes "--jobs" ∷ codes "4" ∷ [])
+    ≡ Ok (record {
+      jobs = 4;
+      task = task.Decompress (record { image = codes "img"; output = codes "o" });
+    })
+image_decompressed = refl
+
+decompressed_nowhere : command_in (codes "decompress" ∷ codes "img" ∷ []) ≡ fault_at 2 kind.Missing
+decompressed_nowhere = refl
+
 option_again_without_value : command_in (codes "cat" ∷ codes "--jobs=2" ∷ codes "--jobs" ∷ []) ≡ fault_at 3 kind.Repeated
 option_again_without_value = refl
 

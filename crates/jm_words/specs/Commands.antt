@@ -10,6 +10,7 @@ use Rattle.jm_words.specs.declared.tables.Field.TheVariants as field
 use Rattle.jm_words.specs.declared.tables.Verb.{Verb}
 use Rattle.jm_words.specs.declared.tables.Verb.TheVariants as verb
 use Rattle.jm_words.specs.declared.tasks.Command.{Command}
+use Rattle.jm_words.specs.declared.tasks.DecompressTask.{DecompressTask}
 use Rattle.jm_words.specs.declared.tasks.GenTask.{GenTask}
 use Rattle.jm_words.specs.declared.tasks.ImageWork.{ImageWork}
 use Rattle.jm_words.specs.declared.tasks.ImageWork.TheVariants as work
@@ -47,6 +48,13 @@ link_of values plugins =
       release = release_of values;
     }))))
 
+-- the `decompress` of what was given, or none where the image or an option isn't there that must be
+abbrev pub decompress_of : List Given → Option DecompressTask
+decompress_of values =
+    needing (path_in (the field.File values)) (λ image.
+    needing (path_in (the field.Output values)) (λ output.
+    Some (record { image = image; output = output })))
+
 -- the `gen` of what was given, or none where something isn't there that must be
 abbrev pub gen_of : List Given → Option GenTask
 gen_of values =
@@ -83,6 +91,8 @@ task_of verb.Extract draft =
     on_image draft.values (work.Extract dir (included draft.values)))
 task_of verb.Verify draft = on_image draft.values (work.Verify (has draft.values field.Nodes))
 task_of verb.Serve draft = on_image draft.values work.Serve
+task_of verb.Decompress draft =
+    needing (decompress_of draft.values) (λ decompress. Some (task.Decompress decompress))
 task_of verb.Gen draft = needing (gen_of draft.values) (λ gen. Some (task.Gen gen))
 task_of verb.Describe draft =
     needing (path_in (the field.File draft.values)) (λ file.

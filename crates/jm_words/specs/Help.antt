@@ -38,6 +38,11 @@ lines verb.Verify = (
   codes "checks the structure of the image and prints the number of its entries",
 )
     ∷ []
+lines verb.Decompress = (
+  codes "decompress IMAGE --output FILE",
+  codes "writes the image of the resources of a compressed image, uncompressed",
+)
+    ∷ []
 lines verb.Serve = (codes "serve IMAGE", codes "answers the lines of the input") ∷ []
 lines verb.Gen = (
   codes "gen DIR --modules N --classes N --seed N",

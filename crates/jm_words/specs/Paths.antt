@@ -1,5 +1,6 @@
 -- What is known of a task that words make (this project's rule).
 use Rattle.std.specs.Prelude.{ℕ, ◌≤◌, List, [], All, IsUtf8}
+use Rattle.jm_words.specs.declared.tasks.DecompressTask.{DecompressTask}
 use Rattle.jm_words.specs.declared.tasks.GenTask.{GenTask}
 use Rattle.jm_words.specs.declared.tasks.ImageWork.{ImageWork}
 use Rattle.jm_words.specs.declared.tasks.ImageWork.TheVariants as work
@@ -23,6 +24,10 @@ SourceIsText (source.Image path) = IsUtf8 path
 abbrev pub LinkIsText : LinkTask → Type 0
 LinkIsText link = SourceIsText link.source × IsUtf8 link.output
 
+-- the paths of the files that a `decompress` names are UTF-8
+abbrev pub DecompressIsText : DecompressTask → Type 0
+DecompressIsText decompress = IsUtf8 decompress.image × IsUtf8 decompress.output
+
 -- the path of the folder that files are made in is UTF-8
 abbrev pub FolderIsText : ImageWork → Type 0
 FolderIsText (work.Extract dir include) = IsUtf8 dir
@@ -32,6 +37,7 @@ FolderIsText _ = Unit {0}
 abbrev pub FilePathsAreText : Task → Type 0
 FilePathsAreText (task.Link link) = LinkIsText link
 FilePathsAreText (task.Image image work) = IsUtf8 image × FolderIsText work
+FilePathsAreText (task.Decompress decompress) = DecompressIsText decompress
 FilePathsAreText (task.Gen gen) = IsUtf8 gen.dir
 FilePathsAreText (task.Describe file release) = IsUtf8 file
 FilePathsAreText task.Help = Unit {0}

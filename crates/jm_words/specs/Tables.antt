@@ -45,6 +45,10 @@ abbrev pub jobs : Row
 jobs = option_row (codes "--jobs") form.Number field.Jobs
     (codes "uses up to N threads, from 1 to 64; the output is the same")
 
+-- the file that gets an image
+abbrev pub output : Row
+output = row (codes "--output") form.Path field.Output
+
 -- up to which release classes are read
 abbrev pub release : Row
 release = option_row (codes "--release") form.Number field.Release
@@ -74,6 +78,7 @@ verb_name verb.Ls = codes "ls"
 verb_name verb.Info = codes "info"
 verb_name verb.Extract = codes "extract"
 verb_name verb.Verify = codes "verify"
+verb_name verb.Decompress = codes "decompress"
 verb_name verb.Serve = codes "serve"
 verb_name verb.Gen = codes "gen"
 verb_name verb.Describe = codes "describe"
@@ -84,7 +89,7 @@ verb_name verb.Version = codes "--version"
 abbrev pub verbs : List Verb
 verbs =
     verb.Link ∷ verb.Cat ∷ verb.List ∷ verb.Ls ∷ verb.Info ∷ verb.Extract ∷ verb.Verify
-    ∷ verb.Serve ∷ verb.Gen ∷ verb.Describe ∷ verb.Help ∷ verb.Version ∷ []
+    ∷ verb.Decompress ∷ verb.Serve ∷ verb.Gen ∷ verb.Describe ∷ verb.Help ∷ verb.Version ∷ []
 
 -- the arguments of a command, in order
 abbrev pub arguments : Verb → List Row
@@ -94,6 +99,7 @@ arguments verb.Ls = image ∷ row (codes "PATH") form.InnerPath field.Name ∷ [
 arguments verb.Info = image ∷ []
 arguments verb.Extract = image ∷ []
 arguments verb.Verify = image ∷ []
+arguments verb.Decompress = image ∷ []
 arguments verb.Serve = image ∷ []
 arguments verb.Gen = row (codes "DIR") form.Folder field.Folder ∷ []
 arguments verb.Describe = row (codes "FILE") form.Path field.File ∷ []
@@ -107,7 +113,7 @@ options verb.Link =
     ∷ row (codes "--from-image") form.Path field.Source
     ∷ option_row (codes "--add-modules") form.Names field.Roots
     (codes "the modules to link; ALL-MODULE-PATH among them stands for all modules")
-    ∷ row (codes "--output") form.Path field.Output
+    ∷ output
     ∷ option_row (codes "--endian") form.Order field.Order
     (codes "the byte order of the image: little, or big")
     ∷ option_row (codes "--bind-services") form.Flag field.Bind
@@ -139,6 +145,7 @@ options verb.Gen =
     ∷ []
 options verb.Describe = jobs ∷ release ∷ []
 options verb.Verify = jobs ∷ nodes ∷ []
+options verb.Decompress = jobs ∷ output ∷ []
 options _ = jobs ∷ []
 
 -- the limits of the numbers of a field

@@ -2,10 +2,10 @@ ghost use Rattle.std.specs.Prelude.{◌≡◌, ◌<◌, map, string_bytes, IfOk,
 ghost use Rattle.std.specs.List.{find};
 ghost use Rattle.std.specs.Str.{bytes_eq};
 ghost use Rattle.jm_bytes.specs.Results.{IfAnswered};
-ghost use Rattle.jm_words.specs.Commands.{gen_of, jobs_of, link_of, on_image};
+ghost use Rattle.jm_words.specs.Commands.{decompress_of, gen_of, jobs_of, link_of, on_image};
 ghost use Rattle.jm_words.specs.Commands.{release_of, task_of, verb_named};
-ghost use Rattle.jm_words.specs.Paths.{FilePathsAreText, FolderIsText, GenFits, IsRelease};
-ghost use Rattle.jm_words.specs.Paths.{LinkIsText, NumbersFit};
+ghost use Rattle.jm_words.specs.Paths.{DecompressIsText, FilePathsAreText, FolderIsText};
+ghost use Rattle.jm_words.specs.Paths.{GenFits, IsRelease, LinkIsText, NumbersFit};
 ghost use Rattle.jm_words.specs.Rule.{command_in, with_image};
 ghost use Rattle.jm_words.specs.Tables.{verb_name};
 
@@ -17,7 +17,7 @@ use crate::errors::{WordsFault, WordsKind};
 use crate::given::Given;
 use crate::reading::draft_of;
 use crate::tables::{Field, Verb, verb_name, verbs};
-use crate::tasks::{Command, GenTask, ImageWork, LinkTask, Plugin, Task};
+use crate::tasks::{Command, DecompressTask, GenTask, ImageWork, LinkTask, Plugin, Task};
 use jm_bytes::{List, Or, Order};
 use std::alloc::Global;
 
@@ -114,6 +114,7 @@ fn task_of(verb: Verb, draft: Draft) -> Option<Task>
     let values = values.as_mut_slice();
     match verb {
         Verb::Link => Some(Task::Link(link_of(values, draft.plugins)?)),
+        Verb::Decompress => Some(Task::Decompress(decompress_of(values)?)),
         Verb::Gen => Some(Task::Gen(gen_of(values)?)),
         Verb::Describe => Some(Task::Describe {
             release: release_of(values),
@@ -157,6 +158,17 @@ fn on_image(values: &mut [Given], work: ImageWork) -> Option<Task>
     Some(Task::Image {
         image: take_path(values, Field::File)?,
         work,
+    })
+}
+
+/// The `decompress` of what was given, if all is there that must be.
+fn decompress_of(values: &mut [Given]) -> Option<DecompressTask>
+    ensures task { result ≡ decompress_of values.old }
+    ensures paths { IfSome result DecompressIsText }
+{
+    Some(DecompressTask {
+        image: take_path(values, Field::File)?,
+        output: take_path(values, Field::Output)?,
     })
 }
 

@@ -46,6 +46,10 @@ fn lines(verb: Verb) -> &'static [Line]
             b"verify IMAGE [--nodes]",
             b"checks the structure of the image and prints the number of its entries",
         )],
+        Verb::Decompress => &[Line(
+            b"decompress IMAGE --output FILE",
+            b"writes the image of the resources of a compressed image, uncompressed",
+        )],
         Verb::Serve => &[Line(b"serve IMAGE", b"answers the lines of the input")],
         Verb::Gen => &[Line(
             b"gen DIR --modules N --classes N --seed N",

@@ -13,6 +13,7 @@ pub enum Verb {
     Info,
     Extract,
     Verify,
+    Decompress,
     Serve,
     Gen,
     Describe,
@@ -105,6 +106,8 @@ const JOBS: Row = Row(
     b"uses up to N threads, from 1 to 64; the output is the same",
 );
 
+const OUTPUT: Row = Row(b"--output", Form::Path, Field::Output, Part::None, b"");
+
 const RELEASE: Row = Row(
     b"--release",
     Form::Number,
@@ -149,6 +152,7 @@ pub fn verbs() -> &'static [Verb]
         Verb::Info,
         Verb::Extract,
         Verb::Verify,
+        Verb::Decompress,
         Verb::Serve,
         Verb::Gen,
         Verb::Describe,
@@ -169,6 +173,7 @@ pub fn verb_name(verb: Verb) -> &'static [u8]
         Verb::Info => b"info",
         Verb::Extract => b"extract",
         Verb::Verify => b"verify",
+        Verb::Decompress => b"decompress",
         Verb::Serve => b"serve",
         Verb::Gen => b"gen",
         Verb::Describe => b"describe",
@@ -191,7 +196,8 @@ pub fn arguments(verb: Verb) -> &'static [Row]
             IMAGE,
             Row(b"PATH", Form::InnerPath, Field::Name, Part::None, b""),
         ],
-        Verb::List | Verb::Info | Verb::Extract | Verb::Verify | Verb::Serve => &[IMAGE],
+        Verb::List | Verb::Info | Verb::Extract | Verb::Verify | Verb::Serve | Verb::Decompress =>
+            &[IMAGE],
         Verb::Gen => &[Row(b"DIR", Form::Folder, Field::Folder, Part::None, b"")],
         Verb::Describe => &[Row(b"FILE", Form::Path, Field::File, Part::None, b"")],
     }
@@ -219,7 +225,7 @@ pub fn options(verb: Verb) -> &'static [Row]
                 Part::Options,
                 b"the modules to link; ALL-MODULE-PATH among them stands for all modules",
             ),
-            Row(b"--output", Form::Path, Field::Output, Part::None, b""),
+            OUTPUT,
             Row(
                 b"--endian",
                 Form::Order,
@@ -299,6 +305,7 @@ pub fn options(verb: Verb) -> &'static [Row]
         ],
         Verb::Describe => &[JOBS, RELEASE],
         Verb::Verify => &[JOBS, NODES],
+        Verb::Decompress => &[JOBS, OUTPUT],
         Verb::Cat | Verb::Ls | Verb::Info | Verb::Serve | Verb::Help | Verb::Version => &[JOBS],
     }
 }

@@ -27,6 +27,8 @@ pub enum Task {
         /// What is done with it.
         work: ImageWork,
     },
+    /// An image of uncompressed contents is made of one whose contents may be compressed.
+    Decompress(DecompressTask),
     /// Modules are made, and an image of them.
     Gen(GenTask),
     /// It is told what the class of a module says.
@@ -138,6 +140,15 @@ pub enum ImageWork {
     },
     /// The lines of the source are answered.
     Serve,
+}
+
+/// What a `decompress` is to do.
+#[derive(Debug, Drop)]
+pub struct DecompressTask {
+    /// The path of the file of the image that is read.
+    pub image: Text,
+    /// The path of the file that gets the image.
+    pub output: Text,
 }
 
 /// What a `gen` is to do.
