@@ -11,9 +11,9 @@ ghost use Rattle.jm_link.specs.Steps.{AfterStep};
 ghost use Rattle.jm_link.specs.Written.{WritesImage};
 
 use crate::linking::{LinkStop, Summary};
+use jm_bytes::Order;
 use jm_outside::{Shelf, ShelfError};
 use jm_pool::Pool;
-use jm_words::LinkTask;
 use jm_writer::{Draft, plan, write};
 use std::alloc::Global;
 
@@ -73,23 +73,24 @@ fn write_planned<S: Shelf>(
     })
 }
 
-/// Writes the image of the resources of that many modules. All of it but the bytes of the resources
-/// is made before the file is touched.
+/// Writes the image of the resources of that many modules, in a byte order, to the file at a path.
+/// All of it but the bytes of the resources is made before the file is touched.
 pub fn write_image<S: Shelf>(
     alloc: Global,
-    task: &LinkTask,
+    order: Order,
     modules: usize,
     pool: &Pool,
+    output: &[u8],
     shelf: &mut S,
 ) -> Result<Summary, LinkStop>
     requires fit { AreFit (names_of pool.now) }
-    requires output { IsUtf8 task.now.output }
-    ensures writes { WritesImage task.now.order modules pool.now task.now.output result
+    requires output { IsUtf8 output.now }
+    ensures writes { WritesImage order modules pool.now output.now result
         (shelf_at S.Shelf shelf.old) (shelf_at S.Shelf shelf.new) }
     ensures whole { IsTrue (S.whole shelf.old) → AfterStep (IsTrue (S.whole shelf.new)) result }
     ensures handed { S.handed shelf.new ≡ S.handed shelf.old }
 {
-    let draft = plan(alloc, task.order, pool)?;
+    let draft = plan(alloc, order, pool)?;
     let planned = Planned { draft, modules };
-    write_planned(alloc, &planned, pool, shelf, task.output.as_slice())
+    write_planned(alloc, &planned, pool, shelf, output)
 }

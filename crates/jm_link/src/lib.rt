@@ -10,5 +10,6 @@ mod relinking;
 mod resources;
 mod stops;
 
+pub use image::write_image;
 pub use linking::{LinkStop, Summary, link};
 pub use relinking::link_image;

@@ -80,5 +80,6 @@ pub fn link<R: Threads + Sync, S: Shelf, G: Gate + Sync>(
     };
     let plugins = task.plugins.as_slice();
     let left = apply_for(&workers, task.release, read, plugins)?;
-    write_image(alloc, task, places.len(), &left, shelf)
+    let output = task.output.as_slice();
+    write_image(alloc, task.order, places.len(), &left, output, shelf)
 }

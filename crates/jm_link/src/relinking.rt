@@ -99,5 +99,6 @@ pub fn link_image<T: Threads + Sync, S: Shelf, G: Gate + Sync, R: Ledger>(
     let read = chosen_resources(alloc, image.path, &modules, places.as_slice(), shelf)?;
     let plugins = task.plugins.as_slice();
     let left = apply_for(workers, task.release, read, plugins)?;
-    write_image(alloc, task, places.len(), &left, shelf)
+    let output = task.output.as_slice();
+    write_image(alloc, task.order, places.len(), &left, output, shelf)
 }

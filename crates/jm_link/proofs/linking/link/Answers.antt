@@ -118,7 +118,7 @@ returns-clause-links g c =
     let fit = fit_left asked.release asked.plugins resources c.in_ok-left.left acted (subst AreFit (sym c.in_ok-read.ensures.names)
     c.in_ok-files.ensures.fit) in
     let did = image_written asked modules resources c.in_ok-left.left acted fit path c.write_image.result old new
-    (rw c.len.ensures at c.write_image.ensures.writes) in
+    (rw (c.len.ensures, c.as_slice-output.ensures) at c.write_image.ensures.writes) in
     links_sooner (ComesTo told (directories_of c.args.task.now.source) asked) (TellsNothing told) path first old new
     (c.read_resources.ensures.files ∙ c.visible_modules.ensures.files)
     (c.in_ok-read.ensures.faults.kept refl ∙ c.in_ok-visible.ensures.faults.kept refl) c.write_image.result

@@ -107,7 +107,7 @@ returns-clause-links g c =
     (pool_fit _ asked _ output old c.requires.there _ _ c.in_ok-modules.modules shown.shows places closed _ shown.files _ pool
     read) in
     let did = image_written asked (length places) pool c.in_ok-left.left acted fit output c.write_image.result now new
-    (rw c.len.ensures at c.write_image.ensures.writes) in
+    (rw (c.len.ensures, c.as_slice-output.ensures) at c.write_image.ensures.writes) in
     subst (λ (n : ℕ). FiledLinks c.args.image.index.now asked c.args.image.path.now output c.write_image.result old new
     (g.S.Shelf.handed c.args.shelf.now) n) (sym c.write_image.ensures.handed)
     (pool_links _ asked _ output old c.requires.there _ _ c.in_ok-modules.modules shown.shows places closed _ shown.files _ pool
