@@ -1,0 +1,2 @@
+pub mod Decompressed
+pub mod Steps
