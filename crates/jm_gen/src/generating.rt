@@ -35,6 +35,7 @@ fn make_info<S: Shelf>(
     ensures err { OnErr result
         (MadePart (info_file place.entry.dir.now place.entry.number draw ∷ [])
         (S.files shelf.old) (S.files shelf.new)) }
+    ensures handed { S.handed shelf.new ≡ S.handed shelf.old }
     ensures faults { CountsFaults (S.faults shelf.old) (S.faults shelf.new) (IsOk result)
         (IsErrOf result ShelfError.Failed) }
 {
@@ -58,6 +59,7 @@ fn make_class<S: Shelf>(
     ensures err { OnErr result
         (MadePart (class_file place.entry.dir.now place.entry.number class value ∷ [])
         (S.files shelf.old) (S.files shelf.new)) }
+    ensures handed { S.handed shelf.new ≡ S.handed shelf.old }
     ensures faults { CountsFaults (S.faults shelf.old) (S.faults shelf.new) (IsOk result)
         (IsErrOf result ShelfError.Failed) }
 {
@@ -85,6 +87,7 @@ fn make_module<S: Shelf>(
         (MadePart (module_files place.entry.dir.now classes draws.old place.entry.number 0)
         (S.files shelf.old) (S.files shelf.new)) }
     ensures draws { OnOk result (draws.new ≡ drawn draws.old (classes + 1)) }
+    ensures handed { S.handed shelf.new ≡ S.handed shelf.old }
     ensures faults { CountsFaults (S.faults shelf.old) (S.faults shelf.new) (IsOk result)
         (IsErrOf result ShelfError.Failed) }
 {
@@ -100,7 +103,7 @@ fn make_module<S: Shelf>(
 /// its own. They are the same at each run.
 ///
 /// After a refusal some of them stand, the last one whole or a front of it; other files are as
-/// before.
+/// before. No byte of a file is handed out.
 pub fn generate<S: Shelf>(
     alloc: Global,
     shelf: &mut S,
@@ -116,6 +119,7 @@ pub fn generate<S: Shelf>(
         (S.files shelf.old) (S.files shelf.new)) }
     ensures err { OnErr result (MadePart (generated dir.now modules classes seed)
         (S.files shelf.old) (S.files shelf.new)) }
+    ensures handed { S.handed shelf.new ≡ S.handed shelf.old }
     ensures faults { CountsFaults (S.faults shelf.old) (S.faults shelf.new) (IsOk result)
         (IsErrOf result ShelfError.Failed) }
 {

@@ -31,6 +31,7 @@ loop-number-preserved g c =
       draws = c.in_ok-make_module.ensures.draws ∙ ap (λ (d : ℕ). drawn d (c.args.classes + 1)) before.draws
           ∙ drawn-drawn c.args.seed (number * (c.args.classes + 1)) (c.args.classes + 1)
           ∙ ap (drawn c.args.seed) (omega (arith, add-mul number 1 (c.args.classes + 1)));
+      handed = c.make_module.ensures.handed ∙ before.handed;
       faults = c.in_ok-make_module.ensures.faults.kept refl ∙ before.faults;
     }
 

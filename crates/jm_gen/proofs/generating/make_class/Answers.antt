@@ -22,5 +22,6 @@ returns g c =
     record {
       ok = rw (path, bytes) at c.make_file.ensures.ok;
       err = rw (path, bytes) at c.make_file.ensures.err;
+      handed = c.make_file.ensures.handed;
       faults = c.make_file.ensures.faults;
     }

@@ -17,6 +17,7 @@ pub loop-class-init : goal.loop-class-init
 loop-class-init g c = record {
   files = rw c.draw.ensures.drawn at c.in_ok-make_info.ensures.ok;
   draws = c.draw.ensures.next;
+  handed = c.make_info.ensures.handed;
   faults = c.in_ok-make_info.ensures.faults.kept refl;
 }
 
@@ -37,6 +38,7 @@ loop-class-preserved g c = record {
       (rw (class_draw c.args.draws.now c.loop-class.class c.loop-class.draws c.draw-in-loop-class.result c.loop-class.invariant.draws
       c.draw-in-loop-class.ensures.drawn) at c.in_ok-make_class.ensures.ok);
   draws = c.draw-in-loop-class.ensures.next ∙ ap draw c.loop-class.invariant.draws ∙ drawn_next c.args.draws.now (c.loop-class.class + 1);
+  handed = c.make_class.ensures.handed ∙ c.loop-class.invariant.handed;
   faults = c.in_ok-make_class.ensures.faults.kept refl ∙ c.loop-class.invariant.faults;
 }
 
