@@ -1,3 +1,4 @@
+pub mod AbsentLaws
 pub mod ChosenLaws
 pub mod ChosenParts
 pub mod ClosedAgain
@@ -17,6 +18,7 @@ pub mod MadeFrom
 pub mod ModuleParts
 pub mod OnceLaws
 pub mod PartLaws
+pub mod PathTakenLaws
 pub mod RelinkedLaws
 pub mod ResourceLaws
 pub mod ResourceNames

@@ -7,6 +7,7 @@ pub mod ImageSteps
 pub mod ImageTaken
 pub mod Linked
 pub mod Links
+pub mod PathTaken
 pub mod Relinked
 pub mod ResourceFiles
 pub mod Resources

@@ -23,6 +23,10 @@ pair_of f = (f.name, f.path)
 abbrev pub file_names : List ResourceFile → List (List ℕ)
 file_names files = map (λ f. f.name) files
 
+-- the paths, in order
+abbrev pub file_paths : List ResourceFile → List (List ℕ)
+file_paths files = map (λ f. f.path) files
+
 -- a file of a module: its name as a resource and its path on the shelf
 abbrev pub file_of : VisibleModule → List ℕ → Named
 file_of m path = (resource_name (name_of m) path, inside m.folder path)

@@ -1,5 +1,5 @@
 -- What a step of a `link` answers, and why it ends the work (this project's rule).
-use Rattle.std.specs.Prelude.{Result, Ok, Err}
+use Rattle.std.specs.Prelude.{ℕ, List, Result, Ok, Err}
 use Rattle.jm_bytes.specs.declared.faults.Or.{Or}
 use Rattle.jm_bytes.specs.declared.faults.Or.TheVariants as or
 use Rattle.jm_modpath.specs.declared.refusal.PathStop.{PathStop}
@@ -32,6 +32,18 @@ StepGives Gives Refuses Absent Fails (Err stop) = StepStops Refuses Absent Fails
 -- a fact after a step, unless the outside failed or no memory was found
 abbrev pub AfterStep : {A : Type 0} → Type 0 → Result A LinkStop → Type 0
 AfterStep Fact answer = StepGives (λ given. Fact) (λ refusal. Fact) Fact (Unit {0}) answer
+
+-- the path of the listed file that isn't there is such a one, if a step ended so
+abbrev pub LacksBy : (List ℕ → Type 0) → LinkStop → Type 0
+LacksBy Such (stop.Refused refusal) = Unit {0}
+LacksBy Such (stop.NotThere listed) = Such listed
+LacksBy Such stop.Outside = Unit {0}
+LacksBy Such stop.Memory = Unit {0}
+
+-- the same by the answer of a step
+abbrev pub Lacks : {A : Type 0} → (List ℕ → Type 0) → Result A LinkStop → Type 0
+Lacks Such (Ok given) = Unit {0}
+Lacks Such (Err stop) = LacksBy Such stop
 
 -- why a fault ends the work, which is refused so, or want of memory
 abbrev pub stop_of_fault : {F : Type 0} → (F → Refusal) → Or F → LinkStop

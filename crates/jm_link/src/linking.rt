@@ -1,7 +1,9 @@
 //! A whole `link` from a module path.
 ghost use Rattle.std.specs.Prelude.{◌≢◌, ◌<◌, [], All, IsTrue, IsUtf8};
 ghost use Rattle.jm_link.specs.Links.{Links, request_of};
-ghost use Rattle.jm_link.specs.Steps.{AfterStep};
+ghost use Rattle.jm_link.specs.PathTaken.{PathTakes};
+ghost use Rattle.jm_link.specs.Steps.{AfterStep, Lacks};
+ghost use Rattle.jm_modpath.specs.Listed.{IsBelow};
 ghost use Rattle.jm_outside.specs.Shelves.{shelf_at};
 ghost use Rattle.jm_words.specs.Paths.{directories_of};
 
@@ -62,6 +64,9 @@ pub fn link<R: Threads + Sync, S: Shelf, G: Gate + Sync>(
     requires output { IsUtf8 task.now.output }
     ensures links { Links (directories_of task.now.source) (request_of task.now) task.now.output
         result (shelf_at S.Shelf shelf.old) (shelf_at S.Shelf shelf.new) }
+    ensures lacks { Lacks (IsBelow (directories_of task.now.source)) result }
+    ensures takes { PathTakes (S.files shelf.old) (directories_of task.now.source)
+        (request_of task.now) (S.handed shelf.old) (S.handed shelf.new) }
 
     // Files that were made before stand whole then, also after a refusal.
     ensures whole { directories_of task.now.source ≢ []

@@ -1,17 +1,18 @@
 //! The files of the modules that are linked, and the resources that they are.
-ghost use Rattle.std.specs.Prelude.{◌≡◌, ◌≢◌, ◌<◌, ◌++◌, All, AllPairs, IsUtf8, IfOk};
-ghost use Rattle.std.specs.Prelude.{OnOk, IsOk, IsTrue, IsErrOf, None, length, map};
+ghost use Rattle.std.specs.Prelude.{◌≡◌, ◌≢◌, ◌<◌, ◌≤◌, ◌+◌, ◌++◌, All, AllPairs, Contains};
+ghost use Rattle.std.specs.Prelude.{IfOk, OnOk, IsOk, IsTrue, IsErrOf, IsUtf8, None, length, map};
 ghost use Rattle.jm_outside.specs.Outcome.{CountsFaults, Shows};
 ghost use Rattle.jm_pool.specs.Pairs.{bytes_of, names_of};
 ghost use Rattle.jm_modpath.specs.Finding.{AreVisible, HasTexts};
-ghost use Rattle.jm_modpath.specs.Modules.{candidates};
+ghost use Rattle.jm_modpath.specs.Modules.{bytes_at, candidates};
 ghost use Rattle.jm_modpath.specs.ModulesView.{module_with_folder};
 ghost use Rattle.jm_link.specs.Chosen.{reserved};
+ghost use Rattle.jm_link.specs.ImageTaken.{sizes};
 ghost use Rattle.jm_link.specs.ResourceFiles.{HoldsDescribed, IsTakenFrom, IsTakenOf, IsToldIn};
 ghost use Rattle.jm_link.specs.ResourceFiles.{NamesAll, OnlyFails, PutsRead, described_of};
-ghost use Rattle.jm_link.specs.ResourceFiles.{file_names, pair_of, resource_file};
+ghost use Rattle.jm_link.specs.ResourceFiles.{file_names, file_paths, pair_of, resource_file};
 ghost use Rattle.jm_link.specs.Resources.{AreFit, link_files, module_files, resources_of};
-ghost use Rattle.jm_link.specs.Steps.{AfterStep};
+ghost use Rattle.jm_link.specs.Steps.{AfterStep, Lacks};
 
 use crate::linking::LinkStop;
 use jm_bytes::{List, NoMemory, Text};
@@ -168,6 +169,9 @@ fn read_resource<S: Shelf>(
     ensures files { S.files shelf.new ≡ S.files shelf.old }
     ensures put { OnOk result (PutsRead (S.files shelf.old) resource pool.old pool.new) }
     ensures stops { OnlyFails (S.files shelf.old) result }
+    ensures lacks { Lacks (λ path. path ≡ resource.path) result }
+    ensures takes { Shows (S.files shelf.old) (λ told. S.handed shelf.new
+        ≤ S.handed shelf.old + length (bytes_at told resource.path)) }
     ensures whole { AfterStep (IsTrue (S.whole shelf.new)) result }
     ensures faults { CountsFaults (S.faults shelf.old) (S.faults shelf.new) (IsOk result)
         (IsErrOf result LinkStop.Outside) }
@@ -200,6 +204,9 @@ pub fn read_resources<S: Shelf>(
     ensures names { IfOk result (λ pool. names_of pool ≡ file_names files) }
     ensures described { IfOk result (λ pool. All (HoldsDescribed pool) files) }
     ensures stops { OnlyFails (S.files shelf.old) result }
+    ensures lacks { Lacks (Contains (file_paths files)) result }
+    ensures takes { Shows (S.files shelf.old) (λ told. S.handed shelf.new
+        ≤ S.handed shelf.old + sizes (resources_of told (map pair_of files))) }
     ensures whole { IsTrue (S.whole shelf.old) → AfterStep (IsTrue (S.whole shelf.new)) result }
     ensures faults { CountsFaults (S.faults shelf.old) (S.faults shelf.new) (IsOk result)
         (IsErrOf result LinkStop.Outside) }

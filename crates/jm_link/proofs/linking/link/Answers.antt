@@ -1,4 +1,4 @@
-use Rattle.std.proofs.Common.{◌≡◌, ◌∙◌, ◌<◌, ℕ, List, length, map, Err, refl, subst, sym, rules}
+use Rattle.std.proofs.Common.{◌≡◌, ◌∙◌, ◌<◌, ℕ, List, length, map, Contains, Err, refl, subst, sym, rules}
 use Rattle.jm_bytes.proofs.Members.{all_from_contains}
 use Rattle.jm_bytes.proofs.ResultLaws.{passed_on}
 use Rattle.jm_bytes.specs.Results.{IfAnswered}
@@ -6,6 +6,7 @@ use Rattle.jm_plugins.specs.Plugins.{Applies}
 use Rattle.jm_words.specs.declared.tasks.Plugin.{Plugin}
 use Rattle.jm_words.specs.Paths.{directories_of}
 use Rattle.jm_closure.specs.declared.candidate.Candidate.{Candidate}
+use Rattle.jm_modpath.specs.Listed.{IsBelow}
 use Rattle.jm_modpath.specs.Modules.{candidates}
 use Rattle.jm_outside.specs.Outcome.{Shows}
 use Rattle.jm_outside.specs.Shelves.{shelf_at}
@@ -13,12 +14,14 @@ use Rattle.jm_link.specs.Chosen.{roots_among}
 use Rattle.jm_link.specs.Closing.{ClosesAmong}
 use Rattle.jm_link.specs.Linked.{Request, plugging_refusal}
 use Rattle.jm_link.specs.Links.{ComesTo, PoolComesTo, TellsNothing, request_of}
-use Rattle.jm_link.specs.ResourceFiles.{NamesAll, pair_of}
+use Rattle.jm_link.specs.ResourceFiles.{NamesAll, file_paths, pair_of}
 use Rattle.jm_link.specs.Resources.{AreFit, link_files, resources_of}
+use Rattle.jm_link.proofs.AbsentLaws.{lacks_also, taken_below}
 use Rattle.jm_link.proofs.ChosenLaws.{chosen_differ, chosen_within}
 use Rattle.jm_link.proofs.LinkingLaws.{candidates_length, ended, fit_left, image_written, links_as}
 use Rattle.jm_link.proofs.LinkingLaws.{links_sooner, none_absent, read_to, refused, taken_told}
 use Rattle.jm_link.proofs.LinkingLaws.{unclosed, unfit, unplugged}
+use Rattle.jm_link.proofs.PathTakenLaws.{files_taken}
 use Rattle.jm_link.proofs.linking.link.Goals as goal
 
 pub closed-requires : goal.closed-requires
@@ -124,3 +127,38 @@ returns-clause-links g c =
     (c.in_ok-read.ensures.faults.kept refl ∙ c.in_ok-visible.ensures.faults.kept refl) c.write_image.result
     (links_as (PoolComesTo asked modules resources) (ComesTo told (directories_of c.args.task.now.source) asked) ⊥ (TellsNothing told) path
     c.write_image.result old new to (none_absent told) did)
+
+pub returns-in_err-read-clause-lacks : goal.returns-in_err-read-clause-lacks
+returns-in_err-read-clause-lacks g c =
+    let directories = directories_of c.args.task.now.source in
+    let below = rw c.directories-directories.ensures at c.in_ok-visible.ensures.below in
+    rw (passed_on c.from_residual-in_err-read.result _ c.from_residual-in_err-read.ensures.1)
+    (lacks_also (Contains (file_paths c.in_ok-files.files)) (IsBelow directories) c.in_err-read.field-0.0
+    (taken_below directories c.in_ok-visible.visible c.in_ok-files.files below c.in_ok-files.ensures.taken) c.in_err-read.ensures.lacks)
+
+pub returns-in_err-read-clause-takes : goal.returns-in_err-read-clause-takes
+returns-in_err-read-clause-takes g c =
+    let shows = rw c.directories-directories.ensures at c.in_ok-visible.ensures.modules in
+    let infos = rw c.directories-directories.ensures at c.visible_modules.ensures.takes in
+    let closes = rw c.candidates.ensures at c.in_ok-places.ensures in
+    let named = rw c.as_slice.ensures at c.in_ok-files.ensures.files in
+    files_taken _ (directories_of c.args.task.now.source) (request_of c.args.task.now) _ _ infos c.in_ok-visible.visible shows
+    c.in_ok-places.places closes _ named.1 _ c.visible_modules.ensures.files _ c.read_resources.ensures.takes
+
+pub returns-in_err-left-clause-takes : goal.returns-in_err-left-clause-takes
+returns-in_err-left-clause-takes g c =
+    let shows = rw c.directories-directories.ensures at c.in_ok-visible.ensures.modules in
+    let infos = rw c.directories-directories.ensures at c.visible_modules.ensures.takes in
+    let closes = rw c.candidates.ensures at c.in_ok-places.ensures in
+    let named = rw c.as_slice.ensures at c.in_ok-files.ensures.files in
+    files_taken _ (directories_of c.args.task.now.source) (request_of c.args.task.now) _ _ infos c.in_ok-visible.visible shows
+    c.in_ok-places.places closes _ named.1 _ c.visible_modules.ensures.files _ c.read_resources.ensures.takes
+
+pub returns-clause-takes : goal.returns-clause-takes
+returns-clause-takes g c =
+    let shows = rw c.directories-directories.ensures at c.in_ok-visible.ensures.modules in
+    let infos = rw c.directories-directories.ensures at c.visible_modules.ensures.takes in
+    let closes = rw c.candidates.ensures at c.in_ok-places.ensures in
+    let named = rw c.as_slice.ensures at c.in_ok-files.ensures.files in
+    rw c.write_image.ensures.handed (files_taken _ (directories_of c.args.task.now.source) (request_of c.args.task.now) _ _ infos c.in_ok-visible.visible shows
+    c.in_ok-places.places closes _ named.1 _ c.visible_modules.ensures.files _ c.read_resources.ensures.takes)

@@ -1,5 +1,9 @@
-use Rattle.std.proofs.Common.{◌∙◌, ◌∷◌, ◌++◌, [], IsUtf8, append_assoc, ap, refl, sym}
+use Rattle.std.proofs.Common.{◌≡◌, ◌∙◌, ◌∷◌, ◌++◌, [], Contains, IsUtf8, append_assoc, ap, refl, sym}
+use Rattle.jm_bytes.proofs.ResultLaws.{passed_on}
 use Rattle.jm_link.specs.declared.resources.ResourceFile.{ResourceFile}
+use Rattle.jm_link.specs.ResourceFiles.{file_paths}
+use Rattle.jm_link.proofs.AbsentLaws.{lacks_also, path_among}
+use Rattle.jm_link.proofs.PathTakenLaws.{taken_ended, taken_next}
 use Rattle.jm_link.proofs.ResourceLaws.{described_more, held_among, name_is_new, names_more, read_more}
 use Rattle.jm_link.proofs.resources.read_resources.Goals as goal
 
@@ -31,4 +35,20 @@ loop-file-preserved g c =
           (g.S.Shelf.files c.args.shelf.now) before.files before.pool;
       names = names_more _ c.loop-file.yielded file c.loop-file.pool c.read_resource.new.pool did.put before.names;
       described = described_more _ c.loop-file.yielded file c.loop-file.pool c.read_resource.new.pool did.put before.described;
+      taken = taken_next (g.S.Shelf.files c.args.shelf.now) _ c.loop-file.yielded file _ _ _ before.files before.taken
+          c.read_resource.ensures.takes;
     }
+
+pub returns-in_err-read_resource-clause-lacks : goal.returns-in_err-read_resource-clause-lacks
+returns-in_err-read_resource-clause-lacks g c =
+    let file = c.in-Some.file in
+    let all = ap (λ rest. c.loop-file.yielded ++ rest) (sym c.in-Some.ensures.steps.0) ∙ c.loop-file.invariant.all in
+    rw (passed_on c.from_residual.result _ c.from_residual.ensures.1)
+    (lacks_also (λ path. path ≡ file.path) (Contains (file_paths c.args.files)) c.in_err-read_resource.field-0.0
+    (path_among c.args.files c.loop-file.yielded file c.next.new.self.rest.items all) c.in_err-read_resource.ensures.lacks)
+
+pub returns-in_err-read_resource-clause-takes : goal.returns-in_err-read_resource-clause-takes
+returns-in_err-read_resource-clause-takes g c =
+    let all = ap (λ rest. c.loop-file.yielded ++ rest) (sym c.in-Some.ensures.steps.0) ∙ c.loop-file.invariant.all in
+    taken_ended (g.S.Shelf.files c.args.shelf.now) _ c.loop-file.yielded c.in-Some.file _ _ _ c.loop-file.invariant.files
+    c.loop-file.invariant.taken c.read_resource.ensures.takes c.args.files c.next.new.self.rest.items all

@@ -1,6 +1,7 @@
-use Rattle.std.proofs.Common.{◌≡◌, ◌++◌, All, IsTrue, map}
+use Rattle.std.proofs.Common.{◌≡◌, ◌≤◌, ◌+◌, ◌++◌, All, IsTrue, map}
 use Rattle.jm_outside.specs.Outcome.{Shows}
 use Rattle.jm_pool.specs.Pairs.{names_of}
+use Rattle.jm_link.specs.ImageTaken.{sizes}
 use Rattle.jm_link.specs.ResourceFiles.{HoldsDescribed, file_names, pair_of}
 use Rattle.jm_link.specs.Resources.{resources_of}
 use Rattle.jm_link.proofs.resources.read_resources.Given as goal
@@ -16,4 +17,6 @@ invariant-loop-file g l = record {
   pool : Shows (g.S.Shelf.files l.fn.shelf) (λ told. l.pool ≡ resources_of told (map pair_of l.yielded));
   names : names_of l.pool ≡ file_names l.yielded;
   described : All (HoldsDescribed l.pool) l.yielded;
+  taken : Shows (g.S.Shelf.files l.fn.shelf)
+      (λ told. g.S.Shelf.handed l.shelf ≤ g.S.Shelf.handed l.fn.shelf + sizes (resources_of told (map pair_of l.yielded)));
 }
