@@ -87,7 +87,7 @@ all_had b [] (p ∷ ps) zipped = absurd zipped
 all_had b (r ∷ rs) [] zipped = absurd zipped
 all_had b (r ∷ rs) (p ∷ ps) zipped = (zipped.0, all_had b rs ps zipped.1)
 
-abbrev HasContent : List ℕ → StoredResource → Type 0
+abbrev pub HasContent : List ℕ → StoredResource → Type 0
 HasContent b r = (content : List ℕ) × ContentIs b r (Ok content)
 
 each_has : (b : List ℕ) (rs : List StoredResource) (ps : List Written) → AllZip (IsContentOf b) rs ps → All (HasContent b) rs

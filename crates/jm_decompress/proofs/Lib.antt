@@ -1,3 +1,5 @@
 pub mod ContentLaws
 pub mod DecompressLaws
+pub mod OnceLaws
 pub mod ResourceLaws
+pub mod Vectors

@@ -105,8 +105,10 @@ AreContents b rs (Err given) = IsFirstPacked b rs given
 abbrev pub laid : Order → List Written → Result LinkedImage Refusal
 laid order resources = laid_out order 0 resources (layout_refusal order resources)
 
--- contents are laid out in the order of the file and the byte order of the image; a refusal is the
--- result
+-- Contents are laid out in the byte order of the image, and in the order in which they stand in its
+-- file. At one place those come first that are empty, and so whose row says the size 0: it is the
+-- content that is to be empty, as without compression, whatever is stored of it. A refusal is the
+-- result.
 abbrev pub IsLaidTo : List ℕ → Result (List Written) Refusal → Result LinkedImage Refusal → Type 0
 IsLaidTo b (Ok contents) result = result ≡ laid (head b).order (kept (file_order b) contents)
 IsLaidTo b (Err given) result = result ≡ Err given
