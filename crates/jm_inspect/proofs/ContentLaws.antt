@@ -11,6 +11,7 @@ use Rattle.jm_filed.specs.declared.taking.TakenEntry.{TakenEntry}
 use Rattle.jm_form.specs.declared.container.Header.{Header}
 use Rattle.jm_form.specs.declared.container.HeaderFault.{HeaderFault}
 use Rattle.jm_form.specs.declared.rows.Row.{Row}
+use Rattle.jm_form.specs.Damages.{first_damage}
 use Rattle.jm_form.specs.Entries.{content_of}
 use Rattle.jm_form.specs.Head.{IsFileOf, header_of, header_with, index_length}
 use Rattle.jm_form.specs.Places.{contents}
@@ -229,7 +230,7 @@ module _ (path : List ℕ) (shelf new : ShelfSeen) (stays : new.told ≡ shelf.t
       → (given ≡ stop.Outside → ShelfFailed shelf new)
       → StepComesTo (WorkComesTo shelf.told source.told path work) reading (Err given) (world shelf source out) (world new source out)
   content_unread work row given reads =
-      unopened (of_work work source) path shelf new stays source out given (sought_unread shelf.told path front row given opens reads)
+      unopened first_damage (of_work work source) path shelf new stays source out given (sought_unread shelf.told path front row given opens reads)
 
 -- a text of the front is put
 pub index_put : (work : ImageWork) (text : List ℕ → List ℕ) (path : List ℕ) (shelf : ShelfSeen) (front : Front)

@@ -20,16 +20,19 @@ use Rattle.jm_outside.specs.Outcome.{Shows}
 use Rattle.jm_outside.specs.Shelves.{ShelfFailed, ShelfSeen}
 use Rattle.jm_reader.specs.Walk.{entries_of, entries_with}
 use Rattle.jm_texts.specs.InfoText.{header_text, info_text, info_with}
-use Rattle.jm_valid.specs.Opened.{Front}
+use Rattle.jm_valid.specs.declared.open_error.OpenError.{OpenError}
+use Rattle.jm_valid.specs.declared.open_error.OpenError.TheVariants.{Damaged, Memory}
+use Rattle.jm_valid.specs.Opened.{Front, Reports}
 use Rattle.jm_words.specs.declared.tasks.ImageWork.{ImageWork}
 use Rattle.jm_words.specs.declared.tasks.ImageWork.TheVariants as of
 use Rattle.jm_inspect.specs.declared.complaint.Complaint.TheVariants as complaint
 use Rattle.jm_inspect.specs.declared.stop.Stop.{Stop}
 use Rattle.jm_inspect.specs.declared.stop.Stop.TheVariants as stop
-use Rattle.jm_inspect.specs.FileParts.{Adds, Comes, HasFront, HasLength, HasPart, IsFrontOf, IsHeadOf, IsOpenFront, IsSoundFile, IsUnopened}
+use Rattle.jm_inspect.specs.FileParts.{Adds, Comes, HasFront, HasLength, HasPart, IsFileWithout, IsFrontOf, IsHeadOf, IsOpenFront, IsUnjudged}
 use Rattle.jm_inspect.specs.FileParts.{LacksPart, ReadsMore}
 use Rattle.jm_inspect.specs.Outcome.{Outcome, damaged, image_outcome, not_there, reading}
-use Rattle.jm_inspect.specs.Works.{HasFile, ImageComes, TextComesTo, WorkComesTo}
+use Rattle.jm_inspect.specs.Stops.{stop_of_open}
+use Rattle.jm_inspect.specs.Works.{HasFile, ImageComes, JudgedComes, TextComesTo, WorkComesTo}
 use Rattle.jm_inspect.specs.Steps.{StepComesTo, WorkDoes}
 use Rattle.jm_inspect.specs.Sinks.{Seen}
 use Rattle.jm_inspect.specs.Taken.{TakesBy, TakesFrom, TakesOf, TakesOfFront, WorkTakes, front_size, front_with}
@@ -376,45 +379,55 @@ module _ (told : Option Files) (path : List ℕ) (front : Front) (opens : IsOpen
 abbrev pub of_work : ImageWork → Seen (List ℕ) → List ℕ → Outcome → Type 0
 of_work work source b = TextComesTo source.told (image_outcome work b)
 
--- what comes of the bytes of a sound file comes of the image in the file of the path
-sound_due : (Sound : List ℕ → Outcome → Type 0) (told : Option Files) (path b : List ℕ) → IsSoundFile told path b
-    → (due : Outcome) → Sound b due → ImageComes told path Sound due
-sound_due Sound told path b (has, sound) due is = (Some b, has, rw sound is)
+-- what comes of the bytes of a file without a damage comes of the image in the file of the path
+sound_due : (damage_of : List ℕ → Option Damage) (Sound : List ℕ → Outcome → Type 0) (told : Option Files) (path b : List ℕ)
+    → IsFileWithout damage_of told path b → (due : Outcome) → Sound b due → JudgedComes damage_of told path Sound due
+sound_due damage_of Sound told path b (has, sound) due is = (Some b, has, rw sound is)
 
 -- what is done with a file of a front that was opened is done with the image in the file of the path
 pub opened : (Sound : List ℕ → Outcome → Type 0) (told : Option Files) (path : List ℕ) (front : Front) (b : List ℕ)
     {answer : Result (Unit {0}) Stop} {old new : World} → IsOpenFront told path front → IsFiled front told path b
     → StepComesTo (Sound b) reading answer old new → StepComesTo (ImageComes told path Sound) reading answer old new
-opened Sound told path front b opens (whole, has) = step_as (sound_due Sound told path b (has, opens.1 b whole))
+opened Sound told path front b opens (whole, has) = step_as (sound_due first_damage Sound told path b (has, opens.1 b whole))
+
+-- a file whose damage is told isn't opened
+pub unjudged : (damage_of : List ℕ → Option Damage) (told : Option Files) (path b : List ℕ) (error : OpenError) → HasFile told path (Some b)
+    → Reports (damage_of b) error → IsUnjudged damage_of told path (stop_of_open error)
+unjudged damage_of told path b (Damaged damage) has is = (Some b, has, (damage, is, refl))
+unjudged damage_of told path b Memory has is = tt
 
 -- what a step comes to that opens the image in the file of a path, by what comes of an image without a damage
-module _ (Sound : List ℕ → Outcome → Type 0) (path : List ℕ) (shelf mid : ShelfSeen) (same : mid.told ≡ shelf.told)
-    (source out : Seen (List ℕ)) where
+module _ (damage_of : List ℕ → Option Damage) (Sound : List ℕ → Outcome → Type 0) (path : List ℕ) (shelf mid : ShelfSeen)
+    (same : mid.told ≡ shelf.told) (source out : Seen (List ℕ)) where
+  abbrev Due : Outcome → Type 0
+  Due due = JudgedComes damage_of shelf.told path Sound due
+
   abbrev Does : Result (Unit {0}) Stop → World → Type 0
-  Does answer new = StepComesTo (ImageComes shelf.told path Sound) reading answer (world shelf source out) new
+  Does answer new = StepComesTo Due reading answer (world shelf source out) new
 
   -- the image wasn't opened
-  pub unopened : (given : Stop) → IsUnopened shelf.told path given → (given ≡ stop.Outside → ShelfFailed shelf mid)
+  pub unopened : (given : Stop) → IsUnjudged damage_of shelf.told path given → (given ≡ stop.Outside → ShelfFailed shelf mid)
       → Does (Err given) (world mid source out)
   unopened (stop.Complaint given) (None, none, is) rose =
-      complains (ImageComes shelf.told path Sound) reading (not_there path) given (complaint.NotThere path) (world shelf source out)
+      complains Due reading (not_there path) given (complaint.NotThere path) (world shelf source out)
       (world mid source out) (None, none, refl) refl is (record { files = same; source = refl; output = refl })
   unopened (stop.Complaint given) (Some b, has, (damage, found, is)) rose =
-      complains (ImageComes shelf.told path Sound) reading (damaged damage) given (complaint.Damaged damage) (world shelf source out)
+      complains Due reading (damaged damage) given (complaint.Damaged damage) (world shelf source out)
       (world mid source out) (Some b, has, rw found refl) refl is (record { files = same; source = refl; output = refl })
   unopened stop.Outside never rose =
-      fails_at_once (ImageComes shelf.told path Sound) reading (Err stop.Outside) (world shelf source out) (world mid source out) tt
+      fails_at_once Due reading (Err stop.Outside) (world shelf source out) (world mid source out) tt
       (record { files = same; source = refl; output = refl }) (λ failed. (refl, rose refl))
   unopened stop.Memory never rose =
-      fails_at_once (ImageComes shelf.told path Sound) reading (Err stop.Memory) (world shelf source out) (world mid source out) tt
+      fails_at_once Due reading (Err stop.Memory) (world shelf source out) (world mid source out) tt
       (record { files = same; source = refl; output = refl }) (λ failed. cc)
 
   -- it was, and what was done then is due of the file
-  pub opened_file : mid.faults ≡ shelf.faults → (b : List ℕ) (answer : Result (Unit {0}) Stop) (new : World) → IsSoundFile shelf.told path b
+  pub opened_file : mid.faults ≡ shelf.faults → (b : List ℕ) (answer : Result (Unit {0}) Stop) (new : World)
+      → IsFileWithout damage_of shelf.told path b
       → StepComesTo (Sound b) reading answer (world mid source out) new → Does answer new
   opened_file kept b answer new is step =
-      comes_behind (ImageComes shelf.told path Sound) shelf (world mid source out) new answer same kept
-      (step_as (sound_due Sound shelf.told path b is) step)
+      comes_behind Due shelf (world mid source out) new answer same kept
+      (step_as (sound_due damage_of Sound shelf.told path b is) step)
 
 -- what a work does after the opening
 pub work_behind : (work : ImageWork) (path : List ℕ) (answer : Result (Unit {0}) Stop) (shelf mid new : ShelfSeen)

@@ -24,6 +24,9 @@ use Rattle.jm_names.specs.declared.check.NameFault.TheVariants as name_fault
 use Rattle.jm_names.specs.Shown.{is_control, newlines, shown, shown_text, StaysInLine}
 use Rattle.jm_names.specs.UtfForms.{utf}
 use Rattle.jm_names.proofs.ShownLaws.{decimal_stays, shown_stays}
+use Rattle.jm_packed.specs.declared.packed.PackedFault.{PackedFault}
+use Rattle.jm_packed.specs.declared.packed.PackedFault.TheVariants as packed
+use Rattle.jm_packed.specs.PackedText.{packed_fault_text}
 use Rattle.jm_pattern.specs.declared.signs.Sign.{Sign}
 use Rattle.jm_texts.specs.declared.refusal.Refusal.{Refusal}
 use Rattle.jm_texts.specs.declared.refusal.Refusal.TheVariants as refusal
@@ -103,6 +106,13 @@ damage_stays (damage.Range slot) = number (codes "Range ") slot refl
 damage_stays (damage.Count stated found) = two_numbers (codes "Count ") stated found refl
 damage_stays (damage.Overlap first second) = two_numbers (codes "Overlap ") first second refl
 
+packed_stays : (fault : PackedFault) → StaysInLine (packed_fault_text fault)
+packed_stays packed.Header = plain_stays (codes "Header") refl
+packed_stays packed.Decompressor = plain_stays (codes "Decompressor") refl
+packed_stays packed.Size = plain_stays (codes "Size") refl
+packed_stays (packed.Stream at) = number (codes "Stream ") at refl
+packed_stays packed.Check = plain_stays (codes "Check") refl
+
 kind_stays : (kind : WordsKind) → StaysInLine (kind_text kind)
 kind_stays words.NoCommand = plain_stays (codes "NoCommand") refl
 kind_stays words.UnknownCommand = plain_stays (codes "UnknownCommand") refl
@@ -156,6 +166,8 @@ refusal_stays (refusal.Clash name) = one_name (codes "Clash") name refl
 refusal_stays (refusal.TooMany count) = number (codes "TooMany ") count refl
 refusal_stays (refusal.NoTable lengths) = number (codes "NoTable ") lengths refl
 refusal_stays (refusal.TooLarge length) = number (codes "TooLarge ") length refl
+refusal_stays (refusal.Packed name fault) =
+    with_fault (codes "Packed") (spaced name) (packed_fault_text fault) refl (spaced_stays name) (packed_stays fault)
 
 -- Complaints
 

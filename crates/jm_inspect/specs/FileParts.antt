@@ -3,7 +3,7 @@ use Rattle.std.specs.Prelude.{ℕ, ◌≡◌, ◌≢◌, List, ◌++◌, length,
 use Rattle.std.specs.Prelude.{Result, Ok, Err}
 use Rattle.jm_form.specs.declared.container.Header.{Header}
 use Rattle.jm_form.specs.declared.damage.Damage.{Damage}
-use Rattle.jm_form.specs.Damages.{first_damage}
+use Rattle.jm_form.specs.Damages.{first_damage, stored_damage}
 use Rattle.jm_form.specs.Head.{HoldsIndex, IsFileOf, header_with, index_length}
 use Rattle.jm_outside.specs.Files.{Files, file_length, file_part}
 use Rattle.jm_outside.specs.Outcome.{Shows}
@@ -116,25 +116,45 @@ IsOpenFront told path front =
     IsFrontOf told path front.bytes front.length
     × ((b : List ℕ) → IsFileOf front.bytes front.length b → first_damage b ≡ None)
 
+-- this is the file of a path, without a damage, as one says which that is
+abbrev pub IsFileWithout : (List ℕ → Option Damage) → Option Files → List ℕ → List ℕ → Type 0
+IsFileWithout damage_of told path b = HasFile told path (Some b) × (damage_of b ≡ None)
+
 -- this is the file of a path, an image without a damage
 abbrev pub IsSoundFile : Option Files → List ℕ → List ℕ → Type 0
-IsSoundFile told path b = HasFile told path (Some b) × (first_damage b ≡ None)
+IsSoundFile told path b = IsFileWithout first_damage told path b
 
--- this is the complaint of a file: that none is at the path, or of its first damage
-abbrev pub IsComplaint : List ℕ → Option (List ℕ) → Complaint → Type 0
-IsComplaint path None given = given ≡ complaint.NotThere path
-IsComplaint path (Some b) given =
-    (damage : Damage) × (first_damage b ≡ Some damage) × (given ≡ complaint.Damaged damage)
+-- this is the file of a path, an image without a damage that is read as stored
+abbrev pub IsStoredFile : Option Files → List ℕ → List ℕ → Type 0
+IsStoredFile told path b = IsFileWithout stored_damage told path b
+
+-- this is the complaint of a file: that none is at the path, or of its damage
+abbrev pub IsComplaint
+    : (List ℕ → Option Damage) → List ℕ → Option (List ℕ) → Complaint → Type 0
+IsComplaint damage_of path None given = given ≡ complaint.NotThere path
+IsComplaint damage_of path (Some b) given =
+    (damage : Damage) × (damage_of b ≡ Some damage) × (given ≡ complaint.Damaged damage)
 
 -- the image in the file of a path isn't opened: by the complaint of this file, a failure, or no
 -- memory
-abbrev pub IsUnopened : Option Files → List ℕ → Stop → Type 0
-IsUnopened told path (stop.Complaint given) =
-    (found : Option (List ℕ)) × HasFile told path found × IsComplaint path found given
-IsUnopened told path stop.Outside = Unit {0}
-IsUnopened told path stop.Memory = Unit {0}
+abbrev pub IsUnjudged : (List ℕ → Option Damage) → Option Files → List ℕ → Stop → Type 0
+IsUnjudged damage_of told path (stop.Complaint given) =
+    (found : Option (List ℕ)) × HasFile told path found × IsComplaint damage_of path found given
+IsUnjudged damage_of told path stop.Outside = Unit {0}
+IsUnjudged damage_of told path stop.Memory = Unit {0}
 
--- opening the image in the file of a path comes to what its answer says, or it isn't opened
+-- the same of an image in which no content may be compressed
+abbrev pub IsUnopened : Option Files → List ℕ → Stop → Type 0
+IsUnopened told path given = IsUnjudged first_damage told path given
+
+-- opening the image in the file of a path, by the damage that it may have, comes to what its answer
+-- says, or it isn't opened
+abbrev pub OpensBy
+    : {A : Type 0} → (List ℕ → Option Damage) → Option Files → List ℕ → (A → Type 0)
+    → Result A Stop → Type 0
+OpensBy damage_of told path Is (Ok image) = Is image
+OpensBy damage_of told path Is (Err given) = IsUnjudged damage_of told path given
+
+-- the same of an image in which no content may be compressed
 abbrev pub Opens : {A : Type 0} → Option Files → List ℕ → (A → Type 0) → Result A Stop → Type 0
-Opens told path Is (Ok image) = Is image
-Opens told path Is (Err given) = IsUnopened told path given
+Opens told path Is result = OpensBy first_damage told path Is result

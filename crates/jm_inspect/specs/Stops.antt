@@ -8,6 +8,8 @@ use Rattle.jm_outside.specs.declared.shelf.ShelfError.{ShelfError}
 use Rattle.jm_outside.specs.declared.shelf.ShelfError.TheVariants as shelf_error
 use Rattle.jm_outside.specs.declared.streams.SinkError.{SinkError}
 use Rattle.jm_outside.specs.declared.streams.SinkError.TheVariants as sink_error
+use Rattle.jm_valid.specs.declared.open_error.OpenError.{OpenError}
+use Rattle.jm_valid.specs.declared.open_error.OpenError.TheVariants as open_error
 use Rattle.jm_words.specs.declared.errors.WordsFault.{WordsFault}
 use Rattle.jm_bytes.specs.declared.faults.Or.{Or}
 use Rattle.jm_bytes.specs.declared.faults.Or.TheVariants as or
@@ -32,6 +34,11 @@ abbrev pub stop_of_extract : ExtractStop → Stop
 stop_of_extract (extract_stop.Refused refusal) = stop.Complaint (complaint.Refused refusal)
 stop_of_extract extract_stop.Outside = stop.Outside
 stop_of_extract extract_stop.Memory = stop.Memory
+
+-- why a command stops where an image wasn't opened
+abbrev pub stop_of_open : OpenError → Stop
+stop_of_open (open_error.Damaged damage) = stop.Complaint (complaint.Damaged damage)
+stop_of_open open_error.Memory = stop.Memory
 
 -- how `serve` ends, by how its session did
 abbrev pub stop_of_session : Result ℕ ServeError → Result (Unit {0}) Stop

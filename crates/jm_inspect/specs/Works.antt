@@ -1,7 +1,7 @@
 -- What a work on the image in a file comes to (this project's rule).
 use Rattle.std.specs.Prelude.{ℕ, ◌≡◌, List, Option, Some, None}
 use Rattle.jm_form.specs.declared.damage.Damage.{Damage}
-use Rattle.jm_form.specs.Damages.{first_damage}
+use Rattle.jm_form.specs.Damages.{first_damage, stored_damage}
 use Rattle.jm_outside.specs.Files.{Files, file}
 use Rattle.jm_outside.specs.Outcome.{Shows}
 use Rattle.jm_words.specs.declared.tasks.ImageWork.{ImageWork}
@@ -27,10 +27,21 @@ abbrev pub OpenedComesTo : (Outcome → Type 0) → Option Damage → Outcome �
 OpenedComesTo Sound None due = Sound due
 OpenedComesTo Sound (Some damage) due = due ≡ damaged damage
 
--- what comes of the image in the file of a path, by what comes of bytes without a damage
+-- what comes of the image in the file of a path, by its damage, as one says which that is, and by
+-- what comes of bytes without one
+abbrev pub JudgedComes
+    : (List ℕ → Option Damage) → Option Files → List ℕ → (List ℕ → Outcome → Type 0) → Outcome
+    → Type 0
+JudgedComes damage_of told path Sound due =
+    FileComesTo told path (λ b. OpenedComesTo (Sound b) (damage_of b)) due
+
+-- the same of an image in which no content may be compressed
 abbrev pub ImageComes : Option Files → List ℕ → (List ℕ → Outcome → Type 0) → Outcome → Type 0
-ImageComes told path Sound due =
-    FileComesTo told path (λ b. OpenedComesTo (Sound b) (first_damage b)) due
+ImageComes told path Sound due = JudgedComes first_damage told path Sound due
+
+-- the same of an image whose contents may be compressed, read as stored
+abbrev pub StoredComes : Option Files → List ℕ → (List ℕ → Outcome → Type 0) → Outcome → Type 0
+StoredComes told path Sound due = JudgedComes stored_damage told path Sound due
 
 -- what is due for the text of the source; where that isn't told, for some text
 abbrev pub TextComesTo : Option (List ℕ) → (List ℕ → Outcome) → Outcome → Type 0

@@ -14,7 +14,7 @@ use jm_filed::FiledImage;
 use jm_form::read_header_of;
 use jm_halves::{Gate, Workers};
 use jm_outside::Shelf;
-use jm_valid::{Index, OpenError};
+use jm_valid::Index;
 use std::alloc::Global;
 use std::marker::Model;
 use std::thread::Threads;
@@ -194,11 +194,8 @@ impl<'a> OpenFront<'a> {
     {
         *front = file_front(workers.alloc, path, shelf)?;
         let bytes = front.bytes.as_slice();
-        match Index::open(workers, bytes, front.length) {
-            Ok(index) => Ok(OpenFront { index, bytes, path }),
-            Err(OpenError::Damaged(damage)) => Err(Stop::Complaint(Complaint::Damaged(damage))),
-            Err(OpenError::Memory) => Err(Stop::Memory),
-        }
+        let index = Index::open(workers, bytes, front.length)?;
+        Ok(OpenFront { index, bytes, path })
     }
 
     /// The index.

@@ -1,11 +1,12 @@
 ghost use Rattle.std.specs.Prelude.{◌≡◌};
-ghost use Rattle.jm_inspect.specs.Stops.{stop_of_extract, stop_of_shelf, stop_of_sink};
-ghost use Rattle.jm_inspect.specs.Stops.{stop_of_words};
+ghost use Rattle.jm_inspect.specs.Stops.{stop_of_extract, stop_of_open, stop_of_shelf};
+ghost use Rattle.jm_inspect.specs.Stops.{stop_of_sink, stop_of_words};
 
 use crate::complaint::Complaint;
 use jm_bytes::{NoMemory, Or};
 use jm_extract::ExtractStop;
 use jm_outside::{ShelfError, SinkError};
+use jm_valid::OpenError;
 use jm_words::WordsFault;
 use std::alloc::AllocError;
 
@@ -50,6 +51,17 @@ impl From<ExtractStop> for Stop {
             ExtractStop::Refused(refusal) => Stop::Complaint(Complaint::Refused(refusal)),
             ExtractStop::Outside => Stop::Outside,
             ExtractStop::Memory => Stop::Memory,
+        }
+    }
+}
+
+impl From<OpenError> for Stop {
+    ghost from_gives = { λ error stop. stop ≡ stop_of_open error };
+
+    fn from(error: OpenError) -> Stop {
+        match error {
+            OpenError::Damaged(damage) => Stop::Complaint(Complaint::Damaged(damage)),
+            OpenError::Memory => Stop::Memory,
         }
     }
 }

@@ -1,4 +1,5 @@
 use Rattle.std.proofs.Common.{refl}
+use Rattle.jm_form.specs.Damages.{first_damage}
 use Rattle.jm_outside.specs.Shelves.{shelf_at}
 use Rattle.jm_inspect.specs.Taken.{work_length}
 use Rattle.jm_inspect.specs.World.{source_at}
@@ -16,7 +17,7 @@ pub returns-in_err-front-in_default-clause-comes : goal.returns-in_err-front-in_
 returns-in_err-front-in_default-clause-comes g c =
     let is = from_stop c.from_residual.result _ c.from_residual.ensures.1 in
     let read = c.in_err-front-in_default.ensures in
-    rw is (unopened (of_work c.args.work.now (source_at g.I.Source c.args.input.now)) c.args.image.now (shelf_at g.S.Shelf c.args.shelf.now)
+    rw is (unopened first_damage (of_work c.args.work.now (source_at g.I.Source c.args.input.now)) c.args.image.now (shelf_at g.S.Shelf c.args.shelf.now)
     (shelf_at g.S.Shelf c.at.new.shelf) read.files _ _ _ read.opens (λ failed. read.faults.rose (rw failed refl)))
 
 pub returns-in_err-front-in_default-clause-takes : goal.returns-in_err-front-in_default-clause-takes
