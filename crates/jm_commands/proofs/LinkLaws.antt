@@ -1,9 +1,10 @@
--- What `link` does, from what its call answered.
+-- What `link` and `decompress` do, from what their call answered.
 use Rattle.std.proofs.Common.{◌≡◌, ◌∷◌, ◌≤◌, ◌+◌, inl, inr, ℕ, List, [], Option, Some, None, Result, Ok, Err, refl, sym, ap, subst}
 use Rattle.std.proofs.Common.{arith, All, IsUtf8}
 use Rattle.std.proofs.lemmas.List.Elements.{All-nil}
 use Rattle.jm_bytes.proofs.Choice.{same_err}
 use Rattle.jm_bytes.specs.declared.words.Order.{Order}
+use Rattle.jm_decompress.specs.Decompressed.{DecompressComes}
 use Rattle.jm_form.specs.declared.damage.Damage.{Damage}
 use Rattle.jm_filed.specs.Filed.{IsFiled}
 use Rattle.jm_form.specs.Damages.{first_damage}
@@ -22,6 +23,7 @@ use Rattle.jm_link.specs.Linked.{LinkedImage, Request}
 use Rattle.jm_link.specs.ImageLinked.{ImageComesTo, ImageLinks}
 use Rattle.jm_link.specs.Links.{BreaksOff, ComesTo, IsLaid, Links, LinksBy, TellsNothing, request_of, summary_of}
 use Rattle.jm_valid.specs.Opened.{Front}
+use Rattle.jm_words.specs.declared.tasks.DecompressTask.{DecompressTask}
 use Rattle.jm_words.specs.declared.tasks.LinkTask.{LinkTask}
 use Rattle.jm_words.specs.declared.tasks.Source.{Source}
 use Rattle.jm_words.specs.declared.tasks.Source.TheVariants.{Path, Image}
@@ -32,9 +34,10 @@ use Rattle.jm_inspect.specs.declared.stop.Stop.TheVariants as stop
 use Rattle.jm_inspect.specs.FileParts.{IsOpenFront}
 use Rattle.jm_inspect.specs.Outcome.{Outcome, done, not_there, reading, refusing}
 use Rattle.jm_commands.specs.KeptOrder.{ordered_by}
+use Rattle.jm_commands.specs.LinkText.{decompress_text}
 use Rattle.jm_commands.specs.Outcome.{link_outcome, linked}
 use Rattle.jm_inspect.specs.Works.{HasFile, ImageComes}
-use Rattle.jm_commands.specs.Run.{ImageLinkComesTo, LinkComesFrom, LinkComesTo, PathLinkComesTo, ShowsLinked}
+use Rattle.jm_commands.specs.Run.{DecompressComesTo, ImageLinkComesTo, LinkComesFrom, LinkComesTo, PathLinkComesTo, ShowsLinked}
 use Rattle.jm_inspect.specs.Steps.{IsFailure, PutDoes, StepComesTo}
 use Rattle.jm_inspect.specs.Sinks.{Seen}
 use Rattle.jm_commands.specs.Stops.{stop_of_link}
@@ -87,10 +90,11 @@ takes_filed link asked path shelf mid new front answer old now after same opens 
 
 -- What was linked
 
--- of a link that comes to one of these results, or finds a listed file missing, from what is due then
-module _ (text : Summary → List ℕ) (link : LinkTask) (Comes : Result LinkedImage Refusal → Type 0) (Absent : Type 0) (Due : Outcome
+-- of work that comes to one of these results and writes the image to a path, or finds a listed file missing, from what is due
+-- then
+module _ (text : Summary → List ℕ) (output : List ℕ) (Comes : Result LinkedImage Refusal → Type 0) (Absent : Type 0) (Due : Outcome
     → Type 0) (old new : World) (input : new.input ≡ old.input) (as_due : (result : Result LinkedImage Refusal) → Comes result
-    → Due (link_outcome text link result)) (as_absent : (listed : List ℕ) → Absent → Due (not_there listed)) where
+    → Due (link_outcome text output result)) (as_absent : (listed : List ℕ) → Absent → Due (not_there listed)) where
   abbrev Does : Result (Unit {0}) Stop → Type 0
   Does answer = StepComesTo Due reading answer old new
 
@@ -98,32 +102,32 @@ module _ (text : Summary → List ℕ) (link : LinkTask) (Comes : Result LinkedI
   source = ap (λ (s : Seen (List ℕ)). s.told) input
 
   -- the image was written, and then the text was put
-  pub put_linked : (summary : Summary) (answer : Result (Unit {0}) Stop) → LinksBy Comes Absent link.output (Ok summary) old.shelf
+  pub put_linked : (summary : Summary) (answer : Result (Unit {0}) Stop) → LinksBy Comes Absent output (Ok summary) old.shelf
       new.shelf → PutDoes (done (text summary)) answer old.out new.out → Does answer
   put_linked summary answer (image, comes, is, stands) puts = inr (
-    linked text link image,
+    linked text output image,
     as_due (Ok image) comes,
-    made_put ((link.output, image.bytes) ∷ []) (text (summary_of image)) answer old new
+    made_put ((output, image.bytes) ∷ []) (text (summary_of image)) answer old new
         (record { stand = record { made = stands.holds; whole = λ some. stands.whole }; durable = λ some. stands.durable })
         stands.kept input
         (subst (λ (s : Summary). PutDoes (done (text s)) answer old.out new.out) is puts),
   )
 
   -- it broke off, before the image was begun or in the midst of it
-  broken_off : (given : Stop) → IsFailure (Err given) → BreaksOff Comes link.output old.shelf new.shelf → new.out.told ≡ old.out.told
+  broken_off : (given : Stop) → IsFailure (Err given) → BreaksOff Comes output old.shelf new.shelf → new.out.told ≡ old.out.told
       → (given ≡ stop.Outside → ShelfFailed old.shelf new.shelf) → Does (Err given)
   broken_off given fails (inl files) unput rose =
       fails_at_once Due reading (Err given) old new fails (record { files = files; source = source; output = unput })
       (λ failed. (refl, rose (same_err _ _ failed)))
   broken_off given fails (inr (image, comes, part)) unput rose = inr (
-    linked text link image,
+    linked text output image,
     as_due (Ok image) comes,
-    made_in_part (linked text link image) given old new fails refl
-        (part_alone old.shelf.told new.shelf.told link.output image.bytes part) source unput (λ failed. inl (refl, rose failed)),
+    made_in_part (linked text output image) given old new fails refl
+        (part_alone old.shelf.told new.shelf.told output image.bytes part) source unput (λ failed. inl (refl, rose failed)),
   )
 
   -- it stopped before anything was put
-  pub stopped_linked : (given : LinkStop) → LinksBy Comes Absent link.output (Err given) old.shelf new.shelf → new.out.told
+  pub stopped_linked : (given : LinkStop) → LinksBy Comes Absent output (Err given) old.shelf new.shelf → new.out.told
       ≡ old.out.told → Does (Err (stop_of_link given))
   stopped_linked (link_stop.Refused refusal) (comes, files) unput =
       complains Due reading (refusing refusal) (complaint.Refused refusal) (complaint.Refused refusal) old new
@@ -138,7 +142,7 @@ module _ (text : Summary → List ℕ) (link : LinkTask) (Comes : Result LinkedI
 
 module _ (text : Summary → List ℕ) (link : LinkTask) (directories : List (List ℕ)) (old new : World) (input : new.input ≡ old.input) where
   path_due : (result : Result LinkedImage Refusal) → ComesTo old.shelf.told directories (request_of link) result
-      → PathLinkComesTo text old.shelf.told link directories (link_outcome text link result)
+      → PathLinkComesTo text old.shelf.told link directories (link_outcome text link.output result)
   path_due result comes = inl (result, comes, linked_shown link.order result comes.1, refl)
 
   path_absent : (listed : List ℕ) → TellsNothing old.shelf.told → PathLinkComesTo text old.shelf.told link directories (not_there listed)
@@ -147,31 +151,49 @@ module _ (text : Summary → List ℕ) (link : LinkTask) (directories : List (Li
   pub link_put : (summary : Summary) (answer : Result (Unit {0}) Stop) → Links directories (request_of link) link.output (Ok summary)
       old.shelf new.shelf → PutDoes (done (text summary)) answer old.out new.out
       → StepComesTo (PathLinkComesTo text old.shelf.told link directories) reading answer old new
-  link_put = put_linked text link (ComesTo old.shelf.told directories (request_of link)) (TellsNothing old.shelf.told)
+  link_put = put_linked text link.output (ComesTo old.shelf.told directories (request_of link)) (TellsNothing old.shelf.told)
       (PathLinkComesTo text old.shelf.told link directories) old new input path_due path_absent
 
   pub link_stopped : (given : LinkStop) → Links directories (request_of link) link.output (Err given) old.shelf new.shelf
       → new.out.told ≡ old.out.told → StepComesTo (PathLinkComesTo text old.shelf.told link directories) reading (Err (stop_of_link given)) old new
-  link_stopped = stopped_linked text link (ComesTo old.shelf.told directories (request_of link)) (TellsNothing old.shelf.told)
+  link_stopped = stopped_linked text link.output (ComesTo old.shelf.told directories (request_of link)) (TellsNothing old.shelf.told)
       (PathLinkComesTo text old.shelf.told link directories) old new input path_due path_absent
 
 -- From an image
 
 module _ (text : Summary → List ℕ) (link : LinkTask) (b : List ℕ) (old new : World) (input : new.input ≡ old.input) where
   image_due : (result : Result LinkedImage Refusal) → ImageComesTo b (request_of (ordered_by b link)) result
-      → ImageLinkComesTo text link b (link_outcome text link result)
+      → ImageLinkComesTo text link b (link_outcome text link.output result)
   image_due result comes = (result, comes, linked_shown link.order result comes.1, refl)
 
   pub image_put : (summary : Summary) (answer : Result (Unit {0}) Stop) → ImageLinks b (request_of (ordered_by b link)) link.output
       (Ok summary) old.shelf new.shelf → PutDoes (done (text summary)) answer old.out new.out
       → StepComesTo (ImageLinkComesTo text link b) reading answer old new
-  image_put = put_linked text link (ImageComesTo b (request_of (ordered_by b link))) ⊥ (ImageLinkComesTo text link b) old new input
+  image_put = put_linked text link.output (ImageComesTo b (request_of (ordered_by b link))) ⊥ (ImageLinkComesTo text link b) old new input
       image_due (λ listed never. absurd never)
 
   pub image_stopped : (given : LinkStop) → ImageLinks b (request_of (ordered_by b link)) link.output (Err given) old.shelf new.shelf
       → new.out.told ≡ old.out.told → StepComesTo (ImageLinkComesTo text link b) reading (Err (stop_of_link given)) old new
-  image_stopped = stopped_linked text link (ImageComesTo b (request_of (ordered_by b link))) ⊥ (ImageLinkComesTo text link b) old
+  image_stopped = stopped_linked text link.output (ImageComesTo b (request_of (ordered_by b link))) ⊥ (ImageLinkComesTo text link b) old
       new input image_due (λ listed never. absurd never)
+
+-- Without compression
+
+module _ (decompress : DecompressTask) (b : List ℕ) (old new : World) (input : new.input ≡ old.input) where
+  decompress_due : (result : Result LinkedImage Refusal) → DecompressComes b result
+      → DecompressComesTo decompress b (link_outcome decompress_text decompress.output result)
+  decompress_due result comes = (result, comes, linked_shown _ result comes.1, refl)
+
+  pub decompress_put : (summary : Summary) (answer : Result (Unit {0}) Stop) → LinksBy (DecompressComes b) ⊥ decompress.output
+      (Ok summary) old.shelf new.shelf → PutDoes (done (decompress_text summary)) answer old.out new.out
+      → StepComesTo (DecompressComesTo decompress b) reading answer old new
+  decompress_put = put_linked decompress_text decompress.output (DecompressComes b) ⊥ (DecompressComesTo decompress b) old new input
+      decompress_due (λ listed never. absurd never)
+
+  pub decompress_stopped : (given : LinkStop) → LinksBy (DecompressComes b) ⊥ decompress.output (Err given) old.shelf new.shelf
+      → new.out.told ≡ old.out.told → StepComesTo (DecompressComesTo decompress b) reading (Err (stop_of_link given)) old new
+  decompress_stopped = stopped_linked decompress_text decompress.output (DecompressComes b) ⊥ (DecompressComesTo decompress b) old new
+      input decompress_due (λ listed never. absurd never)
 
 -- From the image in the file of a path, whose order is that of what is asked
 

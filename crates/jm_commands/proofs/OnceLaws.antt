@@ -1,6 +1,7 @@
 -- Words come to one outcome, where the files and the rest of the input are told.
 use Rattle.std.proofs.Common.{◌≡◌, inl, inr, ℕ, List, Option, Some, None, Result, Ok, Err, sym, ap, subst, ◌∙◌}
-use Rattle.jm_form.specs.Damages.{first_damage}
+use Rattle.jm_decompress.proofs.OnceLaws.{decompresses_once}
+use Rattle.jm_form.specs.Damages.{first_damage, stored_damage}
 use Rattle.jm_form.specs.declared.damage.Damage.{Damage}
 use Rattle.jm_link.specs.declared.linking.Summary.{Summary}
 use Rattle.jm_link.specs.Links.{request_of}
@@ -10,6 +11,7 @@ use Rattle.jm_outside.specs.Files.{Files}
 use Rattle.jm_outside.specs.Made.{written}
 use Rattle.jm_words.specs.declared.errors.WordsFault.{WordsFault}
 use Rattle.jm_words.specs.declared.tasks.Command.{Command}
+use Rattle.jm_words.specs.declared.tasks.DecompressTask.{DecompressTask}
 use Rattle.jm_words.specs.declared.tasks.GenTask.{GenTask}
 use Rattle.jm_words.specs.declared.tasks.LinkTask.{LinkTask}
 use Rattle.jm_words.specs.declared.tasks.Source.{Source}
@@ -18,11 +20,12 @@ use Rattle.jm_words.specs.declared.tasks.Task.{Task}
 use Rattle.jm_words.specs.declared.tasks.Task.TheVariants as task
 use Rattle.jm_commands.specs.Gen.{gen_link, made_first}
 use Rattle.jm_commands.specs.KeptOrder.{ordered_by}
-use Rattle.jm_commands.specs.LinkText.{gen_text, link_text}
+use Rattle.jm_commands.specs.LinkText.{decompress_text, gen_text, link_text}
 use Rattle.jm_inspect.specs.Outcome.{Outcome, describe_outcome, faulty, image_outcome}
 use Rattle.jm_commands.specs.Outcome.{behind, link_outcome}
-use Rattle.jm_commands.specs.Run.{AskTheSame, GenComesTo, ImageLinkComesTo, LinkComesFrom, PathLinkComesTo, TaskComesTo, WordsComeTo}
-use Rattle.jm_inspect.specs.Works.{FileComesTo, FoundComesTo, ImageComes, OpenedComesTo, TextComesTo}
+use Rattle.jm_commands.specs.Run.{AskTheSame, DecompressComesTo, GenComesTo, ImageLinkComesTo, LinkComesFrom, PathLinkComesTo}
+use Rattle.jm_commands.specs.Run.{TaskComesTo, WordsComeTo}
+use Rattle.jm_inspect.specs.Works.{FileComesTo, FoundComesTo, JudgedComes, OpenedComesTo, TextComesTo}
 
 -- what comes of a file or of a text
 
@@ -44,12 +47,12 @@ module _ (one other : Outcome) where
   opened_once Sound None sound is same = sound is same
   opened_once Sound (Some damage) sound is same = is ∙ sym same
 
-  image_comes_once : (files : Files) (path : List ℕ) (Sound : List ℕ → Outcome → Type 0)
-      → ((b : List ℕ) → Sound b one → Sound b other → one ≡ other) → ImageComes (Some files) path Sound one
-      → ImageComes (Some files) path Sound other → one ≡ other
-  image_comes_once files path Sound sound is same =
-      file_once files path (λ b. OpenedComesTo (Sound b) (first_damage b))
-      (λ b opened opened'. opened_once (Sound b) (first_damage b) (sound b) opened opened') is same
+  judged_once : (damage_of : List ℕ → Option Damage) (files : Files) (path : List ℕ) (Sound : List ℕ → Outcome → Type 0)
+      → ((b : List ℕ) → Sound b one → Sound b other → one ≡ other)
+      → JudgedComes damage_of (Some files) path Sound one → JudgedComes damage_of (Some files) path Sound other → one ≡ other
+  judged_once damage_of files path Sound sound is same =
+      file_once files path (λ b. OpenedComesTo (Sound b) (damage_of b))
+      (λ b opened opened'. opened_once (Sound b) (damage_of b) (sound b) opened opened') is same
 
   text_once : (text : List ℕ) (of_text : List ℕ → Outcome) → TextComesTo (Some text) of_text one → TextComesTo (Some text) of_text other
       → one ≡ other
@@ -61,18 +64,24 @@ module _ (one other : Outcome) where
     path_once : (directories : List (List ℕ)) → PathLinkComesTo text (Some files) link directories one
         → PathLinkComesTo text (Some files) link directories other → one ≡ other
     path_once directories (inl (result, comes, shows, is)) (inl (same, comes', shows', is')) =
-        is ∙ ap (link_outcome text link) (links_once files directories (request_of link) result same comes.0 comes'.0) ∙ sym is'
+        is ∙ ap (link_outcome text link.output) (links_once files directories (request_of link) result same comes.0 comes'.0) ∙ sym is'
     path_once directories (inr (listed, never, is)) later = absurd never
     path_once directories first (inr (listed, never, is)) = absurd never
 
     image_link_once : (b : List ℕ) → ImageLinkComesTo text link b one → ImageLinkComesTo text link b other → one ≡ other
     image_link_once b (result, comes, shows, is) (same, comes', shows', is') =
-        is ∙ ap (link_outcome text link) (image_once b (request_of (ordered_by b link)) result same comes.0 comes'.0) ∙ sym is'
+        is ∙ ap (link_outcome text link.output) (image_once b (request_of (ordered_by b link)) result same comes.0 comes'.0) ∙ sym is'
 
     from_once : (given : Source) → LinkComesFrom text (Some files) link given one → LinkComesFrom text (Some files) link given other
         → one ≡ other
     from_once (source.Path directories) is same = path_once directories is same
-    from_once (source.Image path) is same = image_comes_once files path (ImageLinkComesTo text link) image_link_once is same
+    from_once (source.Image path) is same = judged_once first_damage files path (ImageLinkComesTo text link) image_link_once is same
+
+-- what comes of a `decompress`
+decompress_once : (decompress : DecompressTask) (b : List ℕ) (one other : Outcome) → DecompressComesTo decompress b one
+    → DecompressComesTo decompress b other → one ≡ other
+decompress_once decompress b one other (result, comes, shows, is) (same, comes', shows', is') =
+    is ∙ ap (link_outcome decompress_text decompress.output) (decompresses_once b result same comes.0 comes'.0) ∙ sym is'
 
 gen_once : (files : Files) (gen : GenTask) (one other : Outcome) → GenComesTo (Some files) gen one → GenComesTo (Some files) gen other
     → one ≡ other
@@ -84,8 +93,11 @@ task_once : (files : Files) (text : List ℕ) (given : Task) (one other : Outcom
     → TaskComesTo (Some files) (Some text) given other → one ≡ other
 task_once files text (task.Link link) one other is same = from_once one other link_text files link link.source is same
 task_once files text (task.Image image work) one other is same =
-    image_comes_once one other files image (λ b. TextComesTo (Some text) (image_outcome work b))
+    judged_once one other first_damage files image (λ b. TextComesTo (Some text) (image_outcome work b))
     (λ b due due'. text_once one other text (image_outcome work b) due due') is same
+task_once files text (task.Decompress decompress) one other is same =
+    judged_once one other stored_damage files decompress.image (DecompressComesTo decompress)
+    (λ b due due'. decompress_once decompress b one other due due') is same
 task_once files text (task.Gen gen) one other is same = gen_once files gen one other is same
 task_once files text (task.Describe file release) one other is same =
     file_once one other files file (λ b due. due ≡ describe_outcome release file b) (λ b due due'. due ∙ sym due') is same

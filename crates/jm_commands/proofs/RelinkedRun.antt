@@ -54,7 +54,7 @@ module _ (link : LinkTask) (b : List ℕ) where
   module _ (told : Option Files) (file : RelinksFile link told b) (due : Outcome) where
     -- what is due makes these bytes
     by_result : (result : Result LinkedImage Refusal) → ImageComesTo b (request_of link) result → due
-        ≡ link_outcome link_text link result → (due.status ≡ status.Done) × (due.writes ≡ (link.output, b) ∷ [])
+        ≡ link_outcome link_text link.output result → (due.status ≡ status.Done) × (due.writes ≡ (link.output, b) ∷ [])
     by_result (Ok image) comes is =
         let same = same_bytes b (request_of link) file.relinks image comes.0 in
         (ap (λ (d : Outcome). d.status) is, ap (λ (d : Outcome). d.writes) is ∙ ap (λ x. (link.output, x) ∷ []) same)

@@ -39,6 +39,23 @@ line_failed complaint.NotFolder err new_err failed = failed
 line_failed (complaint.LongLine k) err new_err failed = failed
 line_failed complaint.TooManyLines err new_err failed = failed
 
+-- the line of a complaint was put
+pub reported : (given : Complaint) (is : Status) (err new_err : Seen (List ℕ)) → is ≡ status_of given → Gets (line_of given) err new_err
+    → ReportDoes given is err new_err
+reported given is err new_err same puts = subst (λ (s : Status). ReportDoes given s err new_err) (sym same) (go given puts)
+  where
+    go : (g : Complaint) → Gets (line_of g) err new_err → ReportDoes g (status_of g) err new_err
+    go (complaint.Words fault) puts = (refl, puts)
+    go (complaint.Damaged damage) puts = (refl, puts)
+    go (complaint.NotThere text) puts = (refl, puts)
+    go (complaint.NoNode name) puts = (refl, puts)
+    go (complaint.BadNodeAt name at) puts = (refl, puts)
+    go (complaint.Refused refusal) puts = (refl, puts)
+    go (complaint.BadNode at) puts = (refl, puts)
+    go complaint.NotFolder puts = (refl, puts)
+    go (complaint.LongLine k) puts = (refl, puts)
+    go complaint.TooManyLines puts = (refl, puts)
+
 -- What was read from the source
 
 source_map : (session : Option (List ℕ)) (Ends Also : Result ℕ ServeError → Type 0) (old new : World)

@@ -4,7 +4,7 @@ use Rattle.std.proofs.Common.{Ok, Err, inl, inr, refl, sym, ap, ◌∙◌, subst
 use Rattle.jm_bytes.proofs.Choice.{same_some}
 use Rattle.jm_outside.specs.Made.{written}
 use Rattle.jm_form.specs.declared.damage.Damage.{Damage}
-use Rattle.jm_form.specs.Damages.{first_damage}
+use Rattle.jm_form.specs.Damages.{first_damage, stored_damage}
 use Rattle.jm_jrt.specs.Lines.{replies}
 use Rattle.jm_jrt.specs.Sessions.{answered_in}
 use Rattle.jm_texts.specs.declared.refusal.Refusal.{Refusal}
@@ -25,10 +25,11 @@ use Rattle.jm_inspect.specs.declared.complaint.Complaint.{Complaint}
 use Rattle.jm_inspect.specs.declared.status.Status.{Status}
 use Rattle.jm_inspect.specs.declared.status.Status.TheVariants as status
 use Rattle.jm_commands.specs.Gen.{gen_link, made_first}
-use Rattle.jm_commands.specs.LinkText.{gen_text, link_text}
+use Rattle.jm_commands.specs.LinkText.{decompress_text, gen_text, link_text}
 use Rattle.jm_inspect.specs.Outcome.{Early, Outcome, image_outcome, session_outcome, session_with}
 use Rattle.jm_commands.specs.Outcome.{link_outcome}
-use Rattle.jm_commands.specs.Run.{EndsWith, ImageLinkComesTo, LinkComesFrom, LinkComesTo, RunComesTo, RunDoes, TaskComesTo, WordsComeTo}
+use Rattle.jm_commands.specs.Run.{DecompressComesTo, EndsWith, ImageLinkComesTo, LinkComesFrom, LinkComesTo, RunComesTo, RunDoes}
+use Rattle.jm_commands.specs.Run.{TaskComesTo, WordsComeTo}
 use Rattle.jm_inspect.specs.Works.{HasFile, OpenedComesTo, TextComesTo}
 use Rattle.jm_commands.specs.Served.{ServesRun, served, served_in}
 use Rattle.jm_inspect.specs.SessionHeld.{EndsAs, NotBegun, SourceRead}
@@ -43,10 +44,10 @@ use Rattle.jm_inspect.proofs.StepLaws.{not_begun}
 served_none : (image : List ℕ) (does : ImageWork) → served (task.Image image does) ≡ None → does ≢ work.Serve
 served_none image does none is = let never : Some image ≡ None = sym (ap (λ d. served (task.Image image d)) is) ∙ none in cc
 
-link_session : (text : Summary → List ℕ) (link : LinkTask) (result : Result LinkedImage Refusal)
-    → (link_outcome text link result).session ≡ None
-link_session text link (Ok image) = refl
-link_session text link (Err refusal) = refl
+link_session : (text : Summary → List ℕ) (output : List ℕ) (result : Result LinkedImage Refusal)
+    → (link_outcome text output result).session ≡ None
+link_session text output (Ok image) = refl
+link_session text output (Err refusal) = refl
 
 -- an image is opened, and what comes of it without a damage has no session
 opened_session : (Sound : Outcome → Type 0) (due : Outcome) → (Sound due → due.session ≡ None) → (damage : Option Damage)
@@ -60,12 +61,12 @@ linked_session : (text : Summary → List ℕ) (told : Option Files) (link : Lin
 linked_session text told link due comes = from link.source comes
   where
     from : (source : Source) → LinkComesFrom text told link source due → due.session ≡ None
-    from (Path directories) (inl (result, comes, shows, is)) = ap (λ o. o.session) is ∙ link_session text link result
+    from (Path directories) (inl (result, comes, shows, is)) = ap (λ o. o.session) is ∙ link_session text link.output result
     from (Path directories) (inr (listed, never, is)) = ap (λ o. o.session) is
     from (Image path) (None, has, is) = ap (λ o. o.session) is
     from (Image path) (Some b, has, comes) =
         opened_session (ImageLinkComesTo text link b) due (λ (result, comes, shows, is). ap (λ o. o.session) is
-        ∙ link_session text link result) (first_damage b) comes
+        ∙ link_session text link.output result) (first_damage b) comes
 
 due_session : (told : Option Files) (rest : Option (List ℕ)) (given : Task) (due : Outcome) → served given ≡ None
     → TaskComesTo told rest given due → due.session ≡ None
@@ -78,6 +79,10 @@ due_session told rest (task.Image image does) due none (Some b, has, comes) =
     opened_session (TextComesTo rest (image_outcome does b)) due (λ (text, told_text, is). ap (λ o. o.session) is
     ∙ work_session does b text (served_none image does none)) (first_damage b) comes
 due_session told rest (task.Link link) due none comes = linked_session link_text told link due comes
+due_session told rest (task.Decompress decompress) due none (None, has, is) = ap (λ o. o.session) is
+due_session told rest (task.Decompress decompress) due none (Some b, has, comes) =
+    opened_session (DecompressComesTo decompress b) due (λ (result, comes, shows, is). ap (λ o. o.session) is
+    ∙ link_session decompress_text decompress.output result) (stored_damage b) comes
 due_session told rest (task.Gen gen) due none (linked, comes, is) =
     ap (λ o. o.session) is ∙ linked_session gen_text (option_map (λ files. written files (made_first gen)) told) (gen_link gen) linked comes
 

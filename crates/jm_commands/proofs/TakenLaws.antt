@@ -21,6 +21,7 @@ link_takes_nothing told asked (source.Image path) n = takes_link_front told path
 task_takes_nothing : (told : Option Files) (given : Task) (n : ℕ) → TaskTakes told given n n
 task_takes_nothing told (task.Image image does) n = work_takes_nothing told image does n
 task_takes_nothing told (task.Link link) n = link_takes_nothing told (request_of link) link.source n
+task_takes_nothing told (task.Decompress decompress) n = takes_nothing told decompress.image (λ b. length b) n
 task_takes_nothing told (task.Gen gen) n = tt
 task_takes_nothing told (task.Describe file release) n = takes_nothing told file (λ b. length b) n
 task_takes_nothing told task.Help n = refl

@@ -1,5 +1,6 @@
--- The texts of `link` and `gen` (this project's rule): the modules of the closure, the resources,
--- and the length of the image in bytes; of `gen` the slots of its table besides.
+-- The texts of `link`, `gen` and `decompress` (this project's rule): the modules of the closure, the
+-- resources, and the length of the image in bytes; of `gen` the slots of its table besides, and of
+-- `decompress` no modules.
 use Rattle.std.specs.Prelude.{ℕ, List, [], ◌∷◌, codes}
 use Rattle.std.specs.Fmt.{decimal}
 use Rattle.std.specs.List.{concat}
@@ -19,3 +20,9 @@ gen_text summary =
     ∷ codes "\nresources " ∷ decimal summary.resources
     ∷ codes "\nbytes " ∷ decimal summary.length
     ∷ codes "\nslots " ∷ decimal summary.slots ∷ codes "\n" ∷ [])
+
+-- the two lines on what was decompressed
+abbrev pub decompress_text : Summary → List ℕ
+decompress_text summary =
+    concat (codes "resources " ∷ decimal summary.resources
+    ∷ codes "\nbytes " ∷ decimal summary.length ∷ codes "\n" ∷ [])

@@ -1,10 +1,9 @@
--- What a link comes to as plain data, by its image or its refusal; and what all words do with files
--- before it is known what they come to (this project's rule).
+-- What comes of an image that is made as plain data, by the image or by its refusal; and what all
+-- words do with files before it is known what they come to (this project's rule).
 use Rattle.std.specs.Prelude.{ℕ, List, [], ◌∷◌, ◌++◌, true, Result, Ok, Err}
 use Rattle.jm_outside.specs.Made.{Writes}
 use Rattle.jm_words.specs.declared.errors.WordsFault.{WordsFault}
 use Rattle.jm_words.specs.declared.tasks.Command.{Command}
-use Rattle.jm_words.specs.declared.tasks.LinkTask.{LinkTask}
 use Rattle.jm_words.specs.declared.tasks.Task.{Task}
 use Rattle.jm_words.specs.declared.tasks.Task.TheVariants as task
 use Rattle.jm_link.specs.declared.linking.Summary.{Summary}
@@ -14,17 +13,18 @@ use Rattle.jm_link.specs.Links.{summary_of}
 use Rattle.jm_inspect.specs.Outcome.{Early, Outcome, made_and_put, reading, refusing, without_files}
 use Rattle.jm_commands.specs.Gen.{made_first}
 
--- `link`: the image stands at the path, and the output says what it has
+-- `link` and `decompress`: the image stands at the path, and the output says what it has
 
--- the outcome of a link that made an image, by the text on what was linked
-abbrev pub linked : (Summary → List ℕ) → LinkTask → LinkedImage → Outcome
-linked text link image =
-    made_and_put ((link.output, image.bytes) ∷ []) (text (summary_of image))
+-- the outcome of an image that was made, by the text on it and by the path that it stands at
+abbrev pub linked : (Summary → List ℕ) → List ℕ → LinkedImage → Outcome
+linked text output image =
+    made_and_put ((output, image.bytes) ∷ []) (text (summary_of image))
 
--- what a link comes to, by that text, and by its image or its refusal
-abbrev pub link_outcome : (Summary → List ℕ) → LinkTask → Result LinkedImage Refusal → Outcome
-link_outcome text link (Ok image) = linked text link image
-link_outcome text link (Err refusal) = refusing refusal
+-- what comes of an image that is to be made, by that text and that path, and by the image or its
+-- refusal
+abbrev pub link_outcome : (Summary → List ℕ) → List ℕ → Result LinkedImage Refusal → Outcome
+link_outcome text output (Ok image) = linked text output image
+link_outcome text output (Err refusal) = refusing refusal
 
 -- `gen`: files are made, and then they are linked
 
@@ -48,6 +48,7 @@ making made = record { writes = made; reads = true }
 abbrev pub early_of : Task → Early
 early_of (task.Link link) = reading
 early_of (task.Image image work) = reading
+early_of (task.Decompress decompress) = reading
 early_of (task.Gen gen) = making (made_first gen)
 early_of (task.Describe file release) = reading
 early_of task.Help = without_files

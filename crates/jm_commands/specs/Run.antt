@@ -3,6 +3,7 @@ use Rattle.std.specs.Prelude.{ℕ, ◌≡◌, ◌≢◌, ◌⊎◌, IsTrue, List
 use Rattle.jm_outside.specs.Made.{MadePart, written}
 use Rattle.jm_jrt.specs.TreesShown.{ShowsTrees}
 use Rattle.jm_texts.specs.declared.refusal.Refusal.{Refusal}
+use Rattle.jm_decompress.specs.Decompressed.{DecompressComes}
 use Rattle.jm_link.specs.declared.linking.Summary.{Summary}
 use Rattle.jm_link.specs.Linked.{LinkedImage}
 use Rattle.jm_link.specs.ImageLinked.{ImageComesTo}
@@ -11,6 +12,7 @@ use Rattle.jm_outside.specs.Files.{Files}
 use Rattle.jm_outside.specs.Outcome.{Shows}
 use Rattle.jm_words.specs.declared.errors.WordsFault.{WordsFault}
 use Rattle.jm_words.specs.declared.tasks.Command.{Command}
+use Rattle.jm_words.specs.declared.tasks.DecompressTask.{DecompressTask}
 use Rattle.jm_words.specs.declared.tasks.GenTask.{GenTask}
 use Rattle.jm_words.specs.declared.tasks.LinkTask.{LinkTask}
 use Rattle.jm_words.specs.declared.tasks.Source.{Source}
@@ -26,14 +28,14 @@ use Rattle.jm_inspect.specs.FailedBefore.{FailedBefore, FilesFailed}
 use Rattle.jm_commands.specs.Gen.{gen_link, made_first}
 use Rattle.jm_commands.specs.HelpText.{help_text, version_text}
 use Rattle.jm_commands.specs.KeptOrder.{ordered_by}
-use Rattle.jm_commands.specs.LinkText.{gen_text, link_text}
+use Rattle.jm_commands.specs.LinkText.{decompress_text, gen_text, link_text}
 use Rattle.jm_inspect.specs.Outcome.{Early, Outcome, describe_outcome, done, faulty, not_there}
 use Rattle.jm_commands.specs.Outcome.{behind, link_outcome}
 use Rattle.jm_inspect.specs.SessionHeld.{EndsAs, SourceRead}
 use Rattle.jm_inspect.specs.Sinks.{Seen, Failed, Gets, GetsFront}
 use Rattle.jm_inspect.specs.Steps.{FilesFirst, StandAll, status_of}
 use Rattle.jm_inspect.specs.Texts.{line_of}
-use Rattle.jm_inspect.specs.Works.{FileComesTo, ImageComes, WorkComesTo}
+use Rattle.jm_inspect.specs.Works.{FileComesTo, ImageComes, StoredComes, WorkComesTo}
 use Rattle.jm_inspect.specs.World.{NoneRose, World}
 
 -- What the words come to
@@ -51,14 +53,14 @@ abbrev pub PathLinkComesTo
     : (Summary → List ℕ) → Option Files → LinkTask → List (List ℕ) → Outcome → Type 0
 PathLinkComesTo text told link directories due =
     ((result : Result LinkedImage Refusal) × ComesTo told directories (request_of link) result
-    × ShowsLinked result × (due ≡ link_outcome text link result))
+    × ShowsLinked result × (due ≡ link_outcome text link.output result))
     ⊎ ((listed : List ℕ) × Shows told (λ files. ⊥) × (due ≡ not_there listed))
 
 -- a link of the modules of an image without a damage; its plug-ins know the order of that image
 abbrev pub ImageLinkComesTo : (Summary → List ℕ) → LinkTask → List ℕ → Outcome → Type 0
 ImageLinkComesTo text link b due =
     (result : Result LinkedImage Refusal) × ImageComesTo b (request_of (ordered_by b link)) result
-    × ShowsLinked result × (due ≡ link_outcome text link result)
+    × ShowsLinked result × (due ≡ link_outcome text link.output result)
 
 -- what a link comes to, by where its modules are
 abbrev pub LinkComesFrom
@@ -72,6 +74,13 @@ LinkComesFrom text told link (source.Image path) due =
 abbrev pub LinkComesTo : (Summary → List ℕ) → Option Files → LinkTask → Outcome → Type 0
 LinkComesTo text told link due = LinkComesFrom text told link link.source due
 
+-- a `decompress` of an image without a damage, read as stored: the image of its resources as
+-- `DecompressComes` says, laid out and showing its trees, or what is refused
+abbrev pub DecompressComesTo : DecompressTask → List ℕ → Outcome → Type 0
+DecompressComesTo decompress b due =
+    (result : Result LinkedImage Refusal) × DecompressComes b result × ShowsLinked result
+    × (due ≡ link_outcome decompress_text decompress.output result)
+
 -- a `gen` comes to what its link does, where the files that it makes first are there
 abbrev pub GenComesTo : Option Files → GenTask → Outcome → Type 0
 GenComesTo told gen due =
@@ -84,6 +93,8 @@ GenComesTo told gen due =
 abbrev pub TaskComesTo : Option Files → Option (List ℕ) → Task → Outcome → Type 0
 TaskComesTo told rest (task.Link link) due = LinkComesTo link_text told link due
 TaskComesTo told rest (task.Image image work) due = WorkComesTo told rest image work due
+TaskComesTo told rest (task.Decompress decompress) due =
+    StoredComes told decompress.image (DecompressComesTo decompress) due
 TaskComesTo told rest (task.Gen gen) due = GenComesTo told gen due
 TaskComesTo told rest (task.Describe file release) due =
     FileComesTo told file (λ b described. described ≡ describe_outcome release file b) due

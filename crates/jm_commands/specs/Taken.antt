@@ -27,12 +27,14 @@ LinkTakes told asked (source.Path directories) old new = Unit {0}
 LinkTakes told asked (source.Image path) old new =
     TakesBy told path (λ b. TakesLinkedOf (first_damage b) asked b) old new
 
--- what a task takes: such a work or link as said, `describe` the file at its path once, `--help`
--- and `--version` nothing; of `gen` nothing is said
+-- what a task takes: such a work or link as said, `decompress` and `describe` the file at their path
+-- once, `--help` and `--version` nothing; of `gen` nothing is said
 abbrev pub TaskTakes : Option Files → Task → (old new : ℕ) → Type 0
 TaskTakes told (task.Image image work) old new = WorkTakes told image work old new
 TaskTakes told (task.Link link) old new =
     LinkTakes told (request_of link) link.source old new
+TaskTakes told (task.Decompress decompress) old new =
+    TakesFrom told decompress.image (λ b. length b) old new
 TaskTakes told (task.Gen gen) old new = Unit {0}
 TaskTakes told (task.Describe file release) old new = TakesFrom told file (λ b. length b) old new
 TaskTakes told task.Help old new = new ≡ old

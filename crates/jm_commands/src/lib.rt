@@ -1,6 +1,7 @@
 //! The commands, and the top call that does all that the program does.
 #![tactic(auto)]
 
+mod decompress;
 mod generator;
 mod help;
 mod kept_order;

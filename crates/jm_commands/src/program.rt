@@ -9,6 +9,7 @@ ghost use Rattle.jm_commands.specs.Served.{ServesRun, served_in};
 ghost use Rattle.jm_commands.specs.Taken.{TakesNoMore, TaskTakes};
 ghost use Rattle.jm_inspect.specs.World.{sink_at, world_of};
 
+use crate::decompress::decompress_command;
 use crate::generator::gen_command;
 use crate::help::help_command;
 use crate::link::link_command;
@@ -63,6 +64,7 @@ fn do_command<T: Threads + Sync, S: Shelf, I: Source, O: Sink, G: Gate + Sync>(
     match task {
         Task::Link(task) => link_command(workers, task, shelf, out),
         Task::Image { image, work } => do_work(workers, &image, &work, shelf, input, out),
+        Task::Decompress(task) => decompress_command(workers, &task, shelf, out),
         Task::Gen(task) => gen_command(workers, &task, shelf, out),
         Task::Describe { file, release } => {
             describe_command(workers.alloc, &file, release, shelf, out)

@@ -1,4 +1,5 @@
 use Rattle.std.proofs.Common.{refl}
+use Rattle.jm_form.specs.Damages.{first_damage}
 use Rattle.jm_outside.specs.Shelves.{shelf_at}
 use Rattle.jm_commands.specs.LinkText.{link_text}
 use Rattle.jm_commands.specs.Run.{ImageLinkComesTo}
@@ -22,14 +23,14 @@ pub returns-in_err-image-clause-comes : goal.returns-in_err-image-clause-comes
 returns-in_err-image-clause-comes g c source =
     let is = from_stop c.from_residual.result _ c.from_residual.ensures.1 in
     let read = c.in_err-image.ensures in
-    rw is (unopened (ImageLinkComesTo link_text c.args.task) c.args.path.now (shelf_at g.S.Shelf c.args.shelf.now)
+    rw is (unopened first_damage (ImageLinkComesTo link_text c.args.task) c.args.path.now (shelf_at g.S.Shelf c.args.shelf.now)
     (shelf_at g.S.Shelf c.at.new.shelf) read.files source _ _ read.opens (λ failed. read.faults.rose (rw failed refl)))
 
 pub returns-in_err-ordered-clause-comes : goal.returns-in_err-ordered-clause-comes
 returns-in_err-ordered-clause-comes g c source =
     let is = from_stop c.from_residual-in_err-ordered.result stop.Memory c.from_residual-in_err-ordered.ensures.1 in
     let read = c.in_ok-image.ensures in
-    rw is (unopened (ImageLinkComesTo link_text c.args.task) c.args.path.now
+    rw is (unopened first_damage (ImageLinkComesTo link_text c.args.task) c.args.path.now
     (shelf_at g.S.Shelf c.args.shelf.now) (shelf_at g.S.Shelf c.at.new.shelf) read.files source _ stop.Memory tt (λ failed. cc))
 
 pub returns-clause-comes : goal.returns-clause-comes

@@ -17,6 +17,10 @@ returns-in-Image-clause-comes g c = rw c.in-Image.is c.do_work.ensures.comes
 pub returns-in-Image-clause-takes : goal.returns-in-Image-clause-takes
 returns-in-Image-clause-takes g c = rw c.in-Image.is c.do_work.ensures.takes
 
+pub returns-in-Decompress-clause-comes : goal.returns-in-Decompress-clause-comes
+returns-in-Decompress-clause-comes g c =
+    rw c.in-Decompress.is (c.decompress_command.ensures.comes (source_at g.I.Source c.args.input.now))
+
 pub returns-in-Gen-clause-comes : goal.returns-in-Gen-clause-comes
 returns-in-Gen-clause-comes g c = rw c.in-Gen.is (c.gen_command.ensures (source_at g.I.Source c.args.input.now))
 
