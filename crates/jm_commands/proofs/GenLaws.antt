@@ -8,7 +8,8 @@ use Rattle.jm_link.specs.declared.linking.LinkStop.{LinkStop}
 use Rattle.jm_link.specs.declared.linking.LinkStop.TheVariants as link_stop
 use Rattle.jm_link.specs.declared.linking.Summary.{Summary}
 use Rattle.jm_link.specs.Links.{Links, request_of}
-use Rattle.jm_link.specs.Steps.{AfterStep}
+use Rattle.jm_link.specs.Steps.{AfterStep, LacksBy}
+use Rattle.jm_modpath.specs.Listed.{IsBelow}
 use Rattle.jm_words.specs.declared.tasks.GenTask.{GenTask}
 use Rattle.jm_inspect.specs.declared.stop.Stop.{Stop}
 use Rattle.jm_inspect.specs.declared.stop.Stop.TheVariants as stop
@@ -128,6 +129,11 @@ pub links_as : (gen : GenTask) (mods : List ℕ) (answer : Result Summary LinkSt
 links_as gen mods answer old new one links =
     subst (λ (path : List ℕ). Links (path ∷ []) (request_of (gen_link gen)) (image_path gen) answer old new) one links
 
+-- what it lacks, by this folder
+pub lacks_as : (gen : GenTask) (mods : List ℕ) (given : LinkStop) → mods ≡ modules_path gen → LacksBy (IsBelow (mods ∷ [])) given
+    → LacksBy (IsBelow (modules_path gen ∷ [])) given
+lacks_as gen mods given one = subst (λ (path : List ℕ). LacksBy (IsBelow (path ∷ [])) given) one
+
 module _ (gen : GenTask) (shelf : ShelfSeen) (now new : World) where
   abbrev before : World
   before = record { shelf = shelf; input = now.input; out = now.out }
@@ -155,8 +161,8 @@ module _ (gen : GenTask) (shelf : ShelfSeen) (now new : World) where
   -- all was made, and the link stopped
   pub gen_stopped : (given : LinkStop) → MadeAll (made_first gen) shelf.told now.shelf.told → now.shelf.faults ≡ shelf.faults
       → new.input ≡ now.input → Links (modules_path gen ∷ []) (request_of (gen_link gen)) (image_path gen) (Err given) now.shelf
-      new.shelf → AfterStep {A = Summary} (IsTrue new.shelf.whole) (Err given) → new.out.told ≡ now.out.told
-      → Does (Err (stop_of_link given))
-  gen_stopped given made kept input links whole unput =
+      new.shelf → LacksBy (IsBelow (modules_path gen ∷ [])) given → AfterStep {A = Summary} (IsTrue new.shelf.whole) (Err given)
+      → new.out.told ≡ now.out.told → Does (Err (stop_of_link given))
+  gen_stopped given made kept input links lacks whole unput =
       linked_after (Err (stop_of_link given)) made kept (stopped_files given now new whole unput) (link_stopped gen_text (gen_link gen)
-      (modules_path gen ∷ []) now new input given links unput)
+      (modules_path gen ∷ []) now new input given links lacks unput)

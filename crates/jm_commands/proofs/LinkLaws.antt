@@ -21,6 +21,8 @@ use Rattle.jm_link.specs.FiledLinked.{FiledLinks}
 use Rattle.jm_link.specs.ImageTaken.{TakesLinked}
 use Rattle.jm_link.specs.Linked.{LinkedImage, Request}
 use Rattle.jm_link.specs.ImageLinked.{ImageComesTo, ImageLinks}
+use Rattle.jm_link.specs.Steps.{LacksBy}
+use Rattle.jm_modpath.specs.Listed.{IsBelow}
 use Rattle.jm_link.specs.Links.{BreaksOff, ComesTo, IsLaid, Links, LinksBy, TellsNothing, request_of, summary_of}
 use Rattle.jm_valid.specs.Opened.{Front}
 use Rattle.jm_words.specs.declared.tasks.DecompressTask.{DecompressTask}
@@ -90,11 +92,10 @@ takes_filed link asked path shelf mid new front answer old now after same opens 
 
 -- What was linked
 
--- of work that comes to one of these results and writes the image to a path, or finds a listed file missing, from what is due
--- then
+-- of work that comes to one of these results and writes the image to a path, from what is due then
 module _ (text : Summary → List ℕ) (output : List ℕ) (Comes : Result LinkedImage Refusal → Type 0) (Absent : Type 0) (Due : Outcome
     → Type 0) (old new : World) (input : new.input ≡ old.input) (as_due : (result : Result LinkedImage Refusal) → Comes result
-    → Due (link_outcome text output result)) (as_absent : (listed : List ℕ) → Absent → Due (not_there listed)) where
+    → Due (link_outcome text output result)) where
   abbrev Does : Result (Unit {0}) Stop → Type 0
   Does answer = StepComesTo Due reading answer old new
 
@@ -126,17 +127,18 @@ module _ (text : Summary → List ℕ) (output : List ℕ) (Comes : Result Linke
         (part_alone old.shelf.told new.shelf.told output image.bytes part) source unput (λ failed. inl (refl, rose failed)),
   )
 
-  -- it stopped before anything was put
-  pub stopped_linked : (given : LinkStop) → LinksBy Comes Absent output (Err given) old.shelf new.shelf → new.out.told
-      ≡ old.out.told → Does (Err (stop_of_link given))
-  stopped_linked (link_stop.Refused refusal) (comes, files) unput =
+  -- it stopped before anything was put, for a listed file that isn't there by what is due then
+  pub stopped_linked : (given : LinkStop) → LinksBy Comes Absent output (Err given) old.shelf new.shelf
+      → ((listed : List ℕ) → given ≡ link_stop.NotThere listed → Absent → Due (not_there listed)) → new.out.told ≡ old.out.told
+      → Does (Err (stop_of_link given))
+  stopped_linked (link_stop.Refused refusal) (comes, files) as_absent unput =
       complains Due reading (refusing refusal) (complaint.Refused refusal) (complaint.Refused refusal) old new
       (as_due (Err refusal) comes) refl refl (record { files = files; source = source; output = unput })
-  stopped_linked (link_stop.NotThere listed) (none, files) unput =
+  stopped_linked (link_stop.NotThere listed) (none, files) as_absent unput =
       complains Due reading (not_there listed) (complaint.NotThere listed) (complaint.NotThere listed) old new
-      (as_absent listed none) refl refl (record { files = files; source = source; output = unput })
-  stopped_linked link_stop.Outside (breaks, rose) unput = broken_off stop.Outside tt breaks unput (λ failed. rose)
-  stopped_linked link_stop.Memory breaks unput = broken_off stop.Memory tt breaks unput (λ failed. cc)
+      (as_absent listed refl none) refl refl (record { files = files; source = source; output = unput })
+  stopped_linked link_stop.Outside (breaks, rose) as_absent unput = broken_off stop.Outside tt breaks unput (λ failed. rose)
+  stopped_linked link_stop.Memory breaks as_absent unput = broken_off stop.Memory tt breaks unput (λ failed. cc)
 
 -- From a module path
 
@@ -145,19 +147,22 @@ module _ (text : Summary → List ℕ) (link : LinkTask) (directories : List (Li
       → PathLinkComesTo text old.shelf.told link directories (link_outcome text link.output result)
   path_due result comes = inl (result, comes, linked_shown link.order result comes.1, refl)
 
-  path_absent : (listed : List ℕ) → TellsNothing old.shelf.told → PathLinkComesTo text old.shelf.told link directories (not_there listed)
-  path_absent listed none = inr (listed, none, refl)
+  path_absent : (given : LinkStop) → LacksBy (IsBelow directories) given → (listed : List ℕ) → given ≡ link_stop.NotThere listed
+      → TellsNothing old.shelf.told → PathLinkComesTo text old.shelf.told link directories (not_there listed)
+  path_absent given lacks listed is none = inr (listed, none, subst (LacksBy (IsBelow directories)) is lacks, refl)
 
   pub link_put : (summary : Summary) (answer : Result (Unit {0}) Stop) → Links directories (request_of link) link.output (Ok summary)
       old.shelf new.shelf → PutDoes (done (text summary)) answer old.out new.out
       → StepComesTo (PathLinkComesTo text old.shelf.told link directories) reading answer old new
   link_put = put_linked text link.output (ComesTo old.shelf.told directories (request_of link)) (TellsNothing old.shelf.told)
-      (PathLinkComesTo text old.shelf.told link directories) old new input path_due path_absent
+      (PathLinkComesTo text old.shelf.told link directories) old new input path_due
 
   pub link_stopped : (given : LinkStop) → Links directories (request_of link) link.output (Err given) old.shelf new.shelf
-      → new.out.told ≡ old.out.told → StepComesTo (PathLinkComesTo text old.shelf.told link directories) reading (Err (stop_of_link given)) old new
-  link_stopped = stopped_linked text link.output (ComesTo old.shelf.told directories (request_of link)) (TellsNothing old.shelf.told)
-      (PathLinkComesTo text old.shelf.told link directories) old new input path_due path_absent
+      → LacksBy (IsBelow directories) given → new.out.told ≡ old.out.told
+      → StepComesTo (PathLinkComesTo text old.shelf.told link directories) reading (Err (stop_of_link given)) old new
+  link_stopped given links lacks =
+      stopped_linked text link.output (ComesTo old.shelf.told directories (request_of link)) (TellsNothing old.shelf.told)
+      (PathLinkComesTo text old.shelf.told link directories) old new input path_due given links (path_absent given lacks)
 
 -- From an image
 
@@ -170,12 +175,13 @@ module _ (text : Summary → List ℕ) (link : LinkTask) (b : List ℕ) (old new
       (Ok summary) old.shelf new.shelf → PutDoes (done (text summary)) answer old.out new.out
       → StepComesTo (ImageLinkComesTo text link b) reading answer old new
   image_put = put_linked text link.output (ImageComesTo b (request_of (ordered_by b link))) ⊥ (ImageLinkComesTo text link b) old new input
-      image_due (λ listed never. absurd never)
+      image_due
 
   pub image_stopped : (given : LinkStop) → ImageLinks b (request_of (ordered_by b link)) link.output (Err given) old.shelf new.shelf
       → new.out.told ≡ old.out.told → StepComesTo (ImageLinkComesTo text link b) reading (Err (stop_of_link given)) old new
-  image_stopped = stopped_linked text link.output (ImageComesTo b (request_of (ordered_by b link))) ⊥ (ImageLinkComesTo text link b) old
-      new input image_due (λ listed never. absurd never)
+  image_stopped given links =
+      stopped_linked text link.output (ImageComesTo b (request_of (ordered_by b link))) ⊥ (ImageLinkComesTo text link b) old new input
+      image_due given links (λ listed is never. absurd never)
 
 -- Without compression
 
@@ -188,12 +194,13 @@ module _ (decompress : DecompressTask) (b : List ℕ) (old new : World) (input :
       (Ok summary) old.shelf new.shelf → PutDoes (done (decompress_text summary)) answer old.out new.out
       → StepComesTo (DecompressComesTo decompress b) reading answer old new
   decompress_put = put_linked decompress_text decompress.output (DecompressComes b) ⊥ (DecompressComesTo decompress b) old new input
-      decompress_due (λ listed never. absurd never)
+      decompress_due
 
   pub decompress_stopped : (given : LinkStop) → LinksBy (DecompressComes b) ⊥ decompress.output (Err given) old.shelf new.shelf
       → new.out.told ≡ old.out.told → StepComesTo (DecompressComesTo decompress b) reading (Err (stop_of_link given)) old new
-  decompress_stopped = stopped_linked decompress_text decompress.output (DecompressComes b) ⊥ (DecompressComesTo decompress b) old new
-      input decompress_due (λ listed never. absurd never)
+  decompress_stopped given links =
+      stopped_linked decompress_text decompress.output (DecompressComes b) ⊥ (DecompressComesTo decompress b) old new input
+      decompress_due given links (λ listed is never. absurd never)
 
 -- From the image in the file of a path, whose order is that of what is asked
 
@@ -269,7 +276,9 @@ module _ (text : Summary → List ℕ) (link : LinkTask) (directories : List (Li
       (link_put text link directories old new input summary answer (by_directories (Ok summary) links) puts)
 
   pub path_stopped : (given : LinkStop) → Links (directories_of link.source) (request_of link) link.output (Err given) old.shelf new.shelf
-      → new.out.told ≡ old.out.told → StepComesTo (LinkComesTo text old.shelf.told link) reading (Err (stop_of_link given)) old new
-  path_stopped given links unput =
+      → LacksBy (IsBelow (directories_of link.source)) given → new.out.told ≡ old.out.told
+      → StepComesTo (LinkComesTo text old.shelf.told link) reading (Err (stop_of_link given)) old new
+  path_stopped given links lacks unput =
       link_comes text old.shelf.told link (Path directories) (Err (stop_of_link given)) old new is
-      (link_stopped text link directories old new input given (by_directories (Err given) links) unput)
+      (link_stopped text link directories old new input given (by_directories (Err given) links)
+      (subst (λ (s : Source). LacksBy (IsBelow (directories_of s)) given) is lacks) unput)

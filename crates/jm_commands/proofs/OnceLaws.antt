@@ -65,8 +65,8 @@ module _ (one other : Outcome) where
         → PathLinkComesTo text (Some files) link directories other → one ≡ other
     path_once directories (inl (result, comes, shows, is)) (inl (same, comes', shows', is')) =
         is ∙ ap (link_outcome text link.output) (links_once files directories (request_of link) result same comes.0 comes'.0) ∙ sym is'
-    path_once directories (inr (listed, never, is)) later = absurd never
-    path_once directories first (inr (listed, never, is)) = absurd never
+    path_once directories (inr (listed, never, below, is)) later = absurd never
+    path_once directories first (inr (listed, never, below, is)) = absurd never
 
     image_link_once : (b : List ℕ) → ImageLinkComesTo text link b one → ImageLinkComesTo text link b other → one ≡ other
     image_link_once b (result, comes, shows, is) (same, comes', shows', is') =

@@ -62,7 +62,7 @@ linked_session text told link due comes = from link.source comes
   where
     from : (source : Source) → LinkComesFrom text told link source due → due.session ≡ None
     from (Path directories) (inl (result, comes, shows, is)) = ap (λ o. o.session) is ∙ link_session text link.output result
-    from (Path directories) (inr (listed, never, is)) = ap (λ o. o.session) is
+    from (Path directories) (inr (listed, never, below, is)) = ap (λ o. o.session) is
     from (Image path) (None, has, is) = ap (λ o. o.session) is
     from (Image path) (Some b, has, comes) =
         opened_session (ImageLinkComesTo text link b) due (λ (result, comes, shows, is). ap (λ o. o.session) is

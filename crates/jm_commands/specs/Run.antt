@@ -8,6 +8,7 @@ use Rattle.jm_link.specs.declared.linking.Summary.{Summary}
 use Rattle.jm_link.specs.Linked.{LinkedImage}
 use Rattle.jm_link.specs.ImageLinked.{ImageComesTo}
 use Rattle.jm_link.specs.Links.{ComesTo, request_of}
+use Rattle.jm_modpath.specs.Listed.{IsBelow}
 use Rattle.jm_outside.specs.Files.{Files}
 use Rattle.jm_outside.specs.Outcome.{Shows}
 use Rattle.jm_words.specs.declared.errors.WordsFault.{WordsFault}
@@ -47,14 +48,15 @@ ShowsLinked (Ok image) = ShowsTrees image.bytes image.resources
 ShowsLinked (Err refusal) = Unit {0}
 
 -- a link from the directories of a module path comes to what their files do, where the shelf tells
--- them; a shelf that tells nothing may say of a file that it listed that it isn't there. Told or
--- not, an image is laid out and shows its trees
+-- them; a shelf that tells nothing may say of a file that it listed below one of them that it isn't
+-- there. Told or not, an image is laid out and shows its trees
 abbrev pub PathLinkComesTo
     : (Summary → List ℕ) → Option Files → LinkTask → List (List ℕ) → Outcome → Type 0
 PathLinkComesTo text told link directories due =
     ((result : Result LinkedImage Refusal) × ComesTo told directories (request_of link) result
     × ShowsLinked result × (due ≡ link_outcome text link.output result))
-    ⊎ ((listed : List ℕ) × Shows told (λ files. ⊥) × (due ≡ not_there listed))
+    ⊎ ((listed : List ℕ) × Shows told (λ files. ⊥) × IsBelow directories listed
+    × (due ≡ not_there listed))
 
 -- a link of the modules of an image without a damage; its plug-ins know the order of that image
 abbrev pub ImageLinkComesTo : (Summary → List ℕ) → LinkTask → List ℕ → Outcome → Type 0

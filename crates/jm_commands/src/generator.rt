@@ -2,7 +2,9 @@
 ghost use Rattle.std.specs.Prelude.{◌≡◌, ◌∷◌, ◌++◌, [], IfOk, IsTrue, IsUtf8};
 ghost use Rattle.std.specs.Prelude.{List, ℕ};
 ghost use Rattle.jm_link.specs.Links.{Links, request_of};
-ghost use Rattle.jm_link.specs.Steps.{AfterStep};
+ghost use Rattle.jm_link.specs.PathTaken.{PathTakes};
+ghost use Rattle.jm_link.specs.Steps.{AfterStep, Lacks};
+ghost use Rattle.jm_modpath.specs.Listed.{IsBelow};
 ghost use Rattle.jm_words.specs.Paths.{GenFits};
 ghost use Rattle.jm_outside.specs.Shelves.{shelf_at};
 ghost use Rattle.jm_commands.specs.Gen.{gen_link, image_path, made_first};
@@ -10,6 +12,7 @@ ghost use Rattle.jm_commands.specs.LinkText.{gen_text};
 ghost use Rattle.jm_inspect.specs.Outcome.{done};
 ghost use Rattle.jm_commands.specs.Outcome.{making};
 ghost use Rattle.jm_commands.specs.Run.{GenComesTo};
+ghost use Rattle.jm_commands.specs.Taken.{GenTakes};
 ghost use Rattle.jm_inspect.specs.Steps.{PutDoes, StepComesTo};
 ghost use Rattle.jm_inspect.specs.Sinks.{Seen};
 ghost use Rattle.jm_inspect.specs.World.{sink_at, world};
@@ -49,6 +52,9 @@ fn link_generated<T: Threads + Sync, S: Shelf, G: Gate + Sync>(
     requires mods { IsUtf8 mods }
     ensures links { Links (mods ∷ []) (request_of (gen_link task.now)) (image_path task.now) result
         (shelf_at S.Shelf shelf.old) (shelf_at S.Shelf shelf.new) }
+    ensures lacks { Lacks (IsBelow (mods ∷ [])) result }
+    ensures takes { PathTakes (S.files shelf.old) (mods ∷ []) (request_of (gen_link task.now))
+        (S.handed shelf.old) (S.handed shelf.new) }
     ensures whole { AfterStep (IsTrue (S.whole shelf.new)) result }
 {
     let mut dirs = List::new(workers.alloc);
@@ -103,10 +109,12 @@ pub fn gen_command<T: Threads + Sync, S: Shelf, O: Sink, G: Gate + Sync>(
 ) -> Result<(), Stop>
     requires dir { IsUtf8 task.now.dir }
     requires numbers { GenFits task.now }
-    ensures { (source : Seen (List ℕ)) →
+    ensures comes { (source : Seen (List ℕ)) →
         StepComesTo (GenComesTo (S.files shelf.old) task.now) (making (made_first task.now)) result
         (world (shelf_at S.Shelf shelf.old) source (sink_at O.Sink out.old))
         (world (shelf_at S.Shelf shelf.new) source (sink_at O.Sink out.new)) }
+    ensures takes { GenTakes (S.files shelf.old) task.now
+        (S.handed shelf.old) (S.handed shelf.new) }
 {
     let mods = below(workers.alloc, task.dir.as_slice(), "/mods".as_bytes())?;
     generate(

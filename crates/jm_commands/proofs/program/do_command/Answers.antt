@@ -22,7 +22,10 @@ returns-in-Decompress-clause-comes g c =
     rw c.in-Decompress.is (c.decompress_command.ensures.comes (source_at g.I.Source c.args.input.now))
 
 pub returns-in-Gen-clause-comes : goal.returns-in-Gen-clause-comes
-returns-in-Gen-clause-comes g c = rw c.in-Gen.is (c.gen_command.ensures (source_at g.I.Source c.args.input.now))
+returns-in-Gen-clause-comes g c = rw c.in-Gen.is (c.gen_command.ensures.comes (source_at g.I.Source c.args.input.now))
+
+pub returns-in-Gen-clause-takes : goal.returns-in-Gen-clause-takes
+returns-in-Gen-clause-takes g c = rw c.in-Gen.is c.gen_command.ensures.takes
 
 pub returns-in-Describe-clause-comes : goal.returns-in-Describe-clause-comes
 returns-in-Describe-clause-comes g c = rw c.in-Describe.is (c.describe_command.ensures.comes _)
