@@ -180,7 +180,7 @@ module _ (asked : Request) (found : List Candidate) (resources : List ℕ → Li
 -- The steps of a link from a module path
 
 -- a resource has the name of its file
-bad_name : (files : Files) (names : List Named) → first_bad_name (resources_of files names) ≡ first_bad_name names
+pub bad_name : (files : Files) (names : List Named) → first_bad_name (resources_of files names) ≡ first_bad_name names
 bad_name files names = ap first_fault (go names)
   where
     go : (names : List Named) → map name_refusal (resources_of files names) ≡ map name_refusal names

@@ -11,6 +11,7 @@ use Rattle.jm_modpath.proofs.StepLaws.{told_both}
 use Rattle.jm_names.specs.ByName.{Named}
 use Rattle.jm_outside.specs.Files.{Files}
 use Rattle.jm_outside.specs.Outcome.{Shows}
+use Rattle.jm_texts.specs.NameRefusals.{first_bad_name}
 use Rattle.jm_link.specs.declared.resources.ResourceFile.{ResourceFile}
 use Rattle.jm_link.specs.Closing.{ClosesAmong}
 use Rattle.jm_link.specs.ImageTaken.{sizes}
@@ -18,6 +19,7 @@ use Rattle.jm_link.specs.Linked.{Request}
 use Rattle.jm_link.specs.PathTaken.{PathTakes}
 use Rattle.jm_link.specs.ResourceFiles.{pair_of}
 use Rattle.jm_link.specs.Resources.{link_files, resources_in, resources_of}
+use Rattle.jm_link.proofs.LinkingLaws.{bad_name}
 
 -- Files that are read
 
@@ -61,9 +63,9 @@ module _ (told : Option Files) (directories : List (List ℕ)) (asked : Request)
   -- the descriptors were read, and then files of the modules that are linked
   pub files_taken : (found : List VisibleModule) → Shows told (λ files. ShowsModules asked.release files directories (Ok found))
       → (places : List ℕ) → ClosesAmong (candidates found) asked.roots asked.bind (Ok places) → (names : List Named)
-      → names ≡ link_files found places → (now : Option Files) → now ≡ told → (new : ℕ)
+      → names ≡ link_files found places → first_bad_name names ≡ None → (now : Option Files) → now ≡ told → (new : ℕ)
       → Shows now (λ files. new ≤ mid + sizes (resources_of files names)) → PathTakes told directories asked old new
-  files_taken found shows places closes names are now same new taken =
+  files_taken found shows places closes names are fit now same new taken =
       go told infos shows (subst (λ t. Shows t (λ files. new ≤ mid + sizes (resources_of files names))) same taken)
     where
       go : (t : Option Files) → Shows t (λ files. mid ≤ old + all_infos_size files directories)
@@ -77,6 +79,7 @@ module _ (told : Option Files) (directories : List (List ℕ)) (asked : Request)
           places = places;
           closes = subst (λ ms. ClosesAmong (candidates ms) asked.roots asked.bind (Ok places)) shown.1 closes;
           are = ap (resources_of files) are ∙ ap (λ ms. resources_in files ms places) shown.1;
+          fit = bad_name files names ∙ fit;
         },
         omega (arith, within, read),
       )

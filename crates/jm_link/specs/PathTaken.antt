@@ -5,12 +5,14 @@ use Rattle.jm_modpath.specs.Listed.{all_infos_size}
 use Rattle.jm_modpath.specs.Modules.{candidates, path_refusal, visible}
 use Rattle.jm_outside.specs.Files.{Files}
 use Rattle.jm_outside.specs.Outcome.{Shows}
+use Rattle.jm_texts.specs.NameRefusals.{first_bad_name}
 use Rattle.jm_link.specs.Closing.{ClosesAmong}
 use Rattle.jm_link.specs.ImageTaken.{sizes}
 use Rattle.jm_link.specs.Linked.{Request}
 use Rattle.jm_link.specs.Resources.{resources_in}
 
--- the resources of the modules that are linked of those that a module path shows
+-- the resources of the modules that are linked of those that a module path shows: nothing is
+-- refused before their contents are read
 pub record IsChosenOf (files : Files) (directories : List (List ℕ)) (asked : Request)
     (resources : List Written) : Type 0 where
   pub free : path_refusal asked.release files directories ≡ None
@@ -18,6 +20,7 @@ pub record IsChosenOf (files : Files) (directories : List (List ℕ)) (asked : R
   pub closes : ClosesAmong (candidates (visible asked.release files directories)) asked.roots
       asked.bind (Ok places)
   pub are : resources ≡ resources_in files (visible asked.release files directories) places
+  pub fit : first_bad_name resources ≡ None
 
 -- by the count of bytes of files that were handed out: the descriptors at most, or besides these
 -- all files of the modules that are linked, their descriptors once more

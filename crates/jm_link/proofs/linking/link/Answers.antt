@@ -143,7 +143,7 @@ returns-in_err-read-clause-takes g c =
     let closes = rw c.candidates.ensures at c.in_ok-places.ensures in
     let named = rw c.as_slice.ensures at c.in_ok-files.ensures.files in
     files_taken _ (directories_of c.args.task.now.source) (request_of c.args.task.now) _ _ infos c.in_ok-visible.visible shows
-    c.in_ok-places.places closes _ named.1 _ c.visible_modules.ensures.files _ c.read_resources.ensures.takes
+    c.in_ok-places.places closes _ named.1 (rw named.1 named.0) _ c.visible_modules.ensures.files _ c.read_resources.ensures.takes
 
 pub returns-in_err-left-clause-takes : goal.returns-in_err-left-clause-takes
 returns-in_err-left-clause-takes g c =
@@ -152,7 +152,7 @@ returns-in_err-left-clause-takes g c =
     let closes = rw c.candidates.ensures at c.in_ok-places.ensures in
     let named = rw c.as_slice.ensures at c.in_ok-files.ensures.files in
     files_taken _ (directories_of c.args.task.now.source) (request_of c.args.task.now) _ _ infos c.in_ok-visible.visible shows
-    c.in_ok-places.places closes _ named.1 _ c.visible_modules.ensures.files _ c.read_resources.ensures.takes
+    c.in_ok-places.places closes _ named.1 (rw named.1 named.0) _ c.visible_modules.ensures.files _ c.read_resources.ensures.takes
 
 pub returns-clause-takes : goal.returns-clause-takes
 returns-clause-takes g c =
@@ -161,4 +161,4 @@ returns-clause-takes g c =
     let closes = rw c.candidates.ensures at c.in_ok-places.ensures in
     let named = rw c.as_slice.ensures at c.in_ok-files.ensures.files in
     rw c.write_image.ensures.handed (files_taken _ (directories_of c.args.task.now.source) (request_of c.args.task.now) _ _ infos c.in_ok-visible.visible shows
-    c.in_ok-places.places closes _ named.1 _ c.visible_modules.ensures.files _ c.read_resources.ensures.takes)
+    c.in_ok-places.places closes _ named.1 (rw named.1 named.0) _ c.visible_modules.ensures.files _ c.read_resources.ensures.takes)
