@@ -1,0 +1,2 @@
+pub mod ManifestLaws
+pub mod ManifestVectors
