@@ -1,1 +1,4 @@
+pub mod Cuts
+pub mod Files
 pub mod Manifest
+pub mod Places

@@ -1,7 +1,7 @@
 -- What the manifest of a JAR says of its releases (JAR File Specification of Java SE, "Name-Value
 -- pairs and Sections" and "Multi-release JAR Files"; JEP 238).
-use Rattle.std.specs.Prelude.{ℕ, nat_eq, nat_lt, ◌==◌, not, Bool, true, false, ◌&&◌, ◌||◌, if◌then◌else◌}
-use Rattle.std.specs.Prelude.{List, [], ◌∷◌, length, drop, map, codes}
+use Rattle.std.specs.Prelude.{ℕ, nat_eq, nat_lt, ◌==◌, not, Bool, true, false, ◌&&◌, ◌||◌}
+use Rattle.std.specs.Prelude.{if◌then◌else◌, List, [], ◌∷◌, length, drop, map, codes}
 use Rattle.std.specs.Char.{to_ascii_lowercase}
 use Rattle.std.specs.List.{before_first, list_any, starts_with, take_while}
 use Rattle.std.specs.Str.{bytes_eq}
