@@ -27,20 +27,6 @@ pub record SoFar (done best : List Candidate) (last : Candidate) : Type 0 where
   pub own : Contains done last
   pub covers : (one : Candidate) → Contains done one → Covers (best ++ last ∷ []) one
 
-pub so_far_first : (first : Candidate) → SoFar (first ∷ []) [] first
-so_far_first first = record {
-  rising = pairs_none Before;
-  below = λ one there. absurd (contains_none one there);
-  from = λ one there. absurd (contains_none one there);
-  own = contains_here first [];
-  covers = λ one there. (
-    first,
-    contains_here first [],
-    ap (λ (c : Candidate). c.path) (only first one there),
-    omega (arith, ap (λ (c : Candidate). c.version) (only first one there)),
-  );
-}
-
 -- what has the best so far has the best of all
 pub so_far_all : (done best : List Candidate) (last : Candidate) → SoFar done best last → AreBest done (best ++ last ∷ [])
 so_far_all done best last so = record {

@@ -73,7 +73,7 @@ module _ (place : ℕ → Option ℕ) where
   abbrev pub IsGreatest : List ℕ → ℕ → Type 0
   IsGreatest versions version = (other at : ℕ) → Contains versions other → place other ≡ Some at → other ≤ version
 
-  first_found : (vs : List ℕ) (at : ℕ) → AllPairs (λ v w. w < v) vs → first_place place vs ≡ Some at
+  pub first_found : (vs : List ℕ) (at : ℕ) → AllPairs (λ v w. w < v) vs → first_place place vs ≡ Some at
       → (v : ℕ) × Contains vs v × (place v ≡ Some at) × IsGreatest vs v
   first_found [] at fall is = cc
   first_found (v ∷ vs) at fall is = go (place v) refl is (λ later. first_found vs at (pairs_tail (λ v w. w < v) v vs fall) later)
@@ -122,7 +122,7 @@ module _ (place : ℕ → Option ℕ) where
 one_falls : (v : ℕ) → AllPairs (λ v w. w < v) (v ∷ [])
 one_falls v = AllPairs-cons (λ v w. w < v) v [] (All-nil (λ w. w < v)) (pairs_none (λ v w. w < v))
 
-versions_of_fall : (kind : ArchiveKind) (path : List ℕ) → AllPairs (λ v w. w < v) (versions_of kind path)
+pub versions_of_fall : (kind : ArchiveKind) (path : List ℕ) → AllPairs (λ v w. w < v) (versions_of kind path)
 versions_of_fall Jmod path = one_falls 0
 versions_of_fall Jar path = one_falls 0
 versions_of_fall (MultiRelease release) path = go (is_versioned path) (is_meta path)
@@ -141,7 +141,7 @@ versions_of_fall (MultiRelease release) path = go (is_versioned path) (is_meta p
 
 module _ (kind : ArchiveKind) (names : Names) (small : IsSmall kind) (differ : AllPairs Differ names) where
   -- the place of the entry of a path for a version
-  abbrev at_version : List ℕ → ℕ → Option ℕ
+  abbrev pub at_version : List ℕ → ℕ → Option ℕ
   at_version path version = file_named names (entry_name kind path version)
 
   candidate_taken : (c : Candidate) → Contains (candidates kind names) c → Contains (versions_of kind c.path) c.version
@@ -154,7 +154,7 @@ module _ (kind : ArchiveKind) (names : Names) (small : IsSmall kind) (differ : A
       let found = place_found names name c.place differ (ap (slice_get names) is.place ∙ read) in
       (is.taken, ap (file_named names) is.named ∙ ap (λ b. cond b None (position (bytes_eq name) names)) is.file ∙ found))
 
-  taken_candidate : (path : List ℕ) (version place : ℕ) → Contains (versions_of kind path) version
+  pub taken_candidate : (path : List ℕ) (version place : ℕ) → Contains (versions_of kind path) version
       → at_version path version ≡ Some place
       → Contains (candidates kind names) (record { path = path; version = version; place = place })
   taken_candidate path version place taken gives =

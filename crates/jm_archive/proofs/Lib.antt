@@ -5,3 +5,5 @@ pub mod CutLaws
 pub mod BestLaws
 pub mod FileLaws
 pub mod ChoiceLaws
+pub mod ComputedFilesLaws
+pub mod FileVectors

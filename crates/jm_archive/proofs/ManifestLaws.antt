@@ -1,9 +1,8 @@
 -- The lines of a manifest as they are cut one by one, and what they say of the last that is named.
 use Rattle.std.proofs.Common.{◌≡◌, ◌↔◌, ℕ, suc, ◌+◌, ◌<◌, nat_eq, nat_lt, ◌==◌, ◌||◌, ◌&&◌, not, Bool, true, false, cond}
-use Rattle.std.proofs.Common.{List, [], ◌∷◌, length, take, drop, map, codes, refl, sym, ap, ◌∙◌, subst, arith, IsTrue, ◌≤◌, length-take}
+use Rattle.std.proofs.Common.{List, [], ◌∷◌, length, take, drop, map, codes, refl, sym, ap, ◌∙◌, subst, arith, IsTrue, ◌≤◌}
 use Rattle.std.proofs.lemmas.Bool.{eqb-true, false≢true, and_parts, false_from_ne_true}
 use Rattle.std.proofs.lemmas.Bool.Decides.{nat_tests}
-use Rattle.std.proofs.lemmas.List.{length-map}
 use Rattle.std.proofs.lemmas.List.Sums.{take_while-cons}
 use Rattle.std.proofs.lemmas.Slice.Eq.{bytes_eq-Decides}
 use Rattle.std.specs.Char.{to_ascii_lowercase}
@@ -140,10 +139,3 @@ named_front text answer test = go answer refl (is_named text) refl
     go false e true f =
         let same = (bytes_eq-Decides (codes "multi-release:") (take 14 (lowered text))).0 f in
         sym e ∙ test.1 (sym front ∙ sym same)
-
-pub short_unnamed : (text : List ℕ) → length text < 14 → is_named text ≡ false
-short_unnamed text short = false_from_ne_true (is_named text) (λ yes.
-    let same = (bytes_eq-Decides (codes "multi-release:") (take 14 (lowered text))).0 yes in
-    let size = ap length same in
-    let size_map : length (lowered text) ≡ length text = length-map _ _ in
-    absurd (omega (arith, length-take 14 (lowered text), size_map)))

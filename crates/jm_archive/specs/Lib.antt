@@ -1,3 +1,4 @@
+pub mod ComputedFiles
 pub mod Cuts
 pub mod Files
 pub mod Manifest

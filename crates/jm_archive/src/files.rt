@@ -1,6 +1,7 @@
 //! The files of an archive.
 ghost use Rattle.std.specs.Prelude.{◌≡◌, ◌≢◌, IfOk, AllPairs, map};
 ghost use Rattle.jm_archive.specs.Cuts.{candidate_of, candidates, file_of};
+ghost use Rattle.jm_archive.specs.ComputedFiles.{files_of};
 ghost use Rattle.jm_archive.specs.Files.{AreFiles};
 
 use crate::choice::best_of_each;
@@ -28,8 +29,10 @@ pub fn archive_files(
     kind: ArchiveKind,
 ) -> Result<List<ArchiveFile>, NoMemory>
     requires { AllPairs (λ name later. name ≢ later) names.now }
-    ensures { IfOk result (AreFiles kind names.now) }
+    ensures files { IfOk result (AreFiles kind names.now) }
+    ensures computed { IfOk result (λ files. files ≡ files_of kind names.now) }
 {
+    // Says that the release has 32 bits, by which the digits of a version tell it.
     let _release = kind.release();
     let cuts = sorted_by_name(cuts_of(alloc, kind, names)?);
     let best = best_of_each(alloc, cuts.as_slice())?;

@@ -1,3 +1,4 @@
+//! What an archive is.
 ghost use Rattle.std.specs.Prelude.{◌≡◌};
 ghost use Rattle.jm_archive.specs.Cuts.{IsSmall, release_of};
 
@@ -8,7 +9,7 @@ pub enum ArchiveKind {
     Jmod,
     /// A JAR that isn't multi-release.
     Jar,
-    /// A multi-release JAR, as it is read for a release of Java.
+    /// A multi-release JAR, as it is read for a release of Java, of 9 or later.
     MultiRelease(u32),
 }
 

@@ -6,6 +6,8 @@ use Rattle.jm_bytes.proofs.SameOrder.{mapped_twice}
 use Rattle.jm_names.specs.ByName.{Named}
 use Rattle.jm_archive.specs.Cuts.{candidate_of, file_of, named_of}
 use Rattle.jm_archive.specs.Files.{AreFiles}
+use Rattle.jm_archive.specs.ComputedFiles.{files_of}
+use Rattle.jm_archive.proofs.ComputedFilesLaws.{are_computed}
 use Rattle.jm_archive.proofs.ChoiceLaws.{unmapped}
 use Rattle.jm_archive.proofs.FileLaws.{best_files, plain_file}
 use Rattle.jm_archive.proofs.files.archive_files.Goals as goal
@@ -15,8 +17,8 @@ best_of_each-requires c =
     rw c.as_slice.ensures (unmapped (λ (e f : Named). IsFalse (is_before f.0 e.0)) named_of c.sorted_by_name-cuts.result
     c.sorted_by_name-cuts.ensures.sorted)
 
-pub returns : goal.returns
-returns c =
+pub returns-clause-files : goal.returns-clause-files
+returns-clause-files c =
     let kind = c.args.kind in
     let names = c.args.names.now in
     let sorted = c.sorted_by_name-cuts.result in
@@ -29,3 +31,8 @@ returns c =
     let same = mapped_twice plain_file candidate_of best in
     IfOk-weaker c.files_of.result (λ list. list ≡ map file_of c.as_slice-2.result.now) (AreFiles kind names)
     (λ list is. subst (AreFiles kind names) (same ∙ ap (map file_of) (sym c.as_slice-2.ensures) ∙ sym is) files) c.files_of.ensures
+
+pub returns-clause-computed : goal.returns-clause-computed
+returns-clause-computed c =
+    IfOk-weaker c.files_of.result (AreFiles c.args.kind c.args.names.now) (λ files. files ≡ files_of c.args.kind c.args.names.now)
+    (λ files are. are_computed c.args.kind c.args.names.now files c.release-release.ensures.small c.requires are) (returns-clause-files c)
