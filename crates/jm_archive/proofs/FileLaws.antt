@@ -36,7 +36,7 @@ Differ name later = name ≢ later
 
 -- The place of a name
 
-position_found : (names : Names) (name : List ℕ) (place : ℕ) → position (bytes_eq name) names ≡ Some place
+pub position_found : (names : Names) (name : List ℕ) (place : ℕ) → position (bytes_eq name) names ≡ Some place
     → slice_get names place ≡ Some name
 position_found names name place is =
     let first = position_or_len (bytes_eq name) names in
@@ -49,7 +49,7 @@ position_found names name place is =
           ∙ ap (λ (n : List ℕ). Some n) (sym equal)
     ]
 
-within_names : (names : Names) (name : List ℕ) (place : ℕ) → slice_get names place ≡ Some name → place < length names
+pub within_names : (names : Names) (name : List ℕ) (place : ℕ) → slice_get names place ≡ Some name → place < length names
 within_names [] name place is = cc
 within_names (first ∷ names) name zero is = omega arith
 within_names (first ∷ names) name (suc place) is = omega (arith, within_names names name place is)

@@ -7,3 +7,4 @@ pub mod FileLaws
 pub mod ChoiceLaws
 pub mod ComputedFilesLaws
 pub mod FileVectors
+pub mod EntryLaws

@@ -1,5 +1,6 @@
 //! The files of an archive.
-ghost use Rattle.std.specs.Prelude.{◌≡◌, ◌≢◌, IfOk, AllPairs, map};
+ghost use Rattle.std.specs.Prelude.{◌≡◌, ◌≢◌, ◌<◌, IfOk, All, AllPairs, length, map};
+ghost use Rattle.std.specs.Str.{IsUtf8};
 ghost use Rattle.jm_archive.specs.Cuts.{candidate_of, candidates, file_of};
 ghost use Rattle.jm_archive.specs.ComputedFiles.{files_of};
 ghost use Rattle.jm_archive.specs.Files.{AreFiles};
@@ -31,6 +32,8 @@ pub fn archive_files(
     requires { AllPairs (λ name later. name ≢ later) names.now }
     ensures files { IfOk result (AreFiles kind names.now) }
     ensures computed { IfOk result (λ files. files ≡ files_of kind names.now) }
+    ensures within { IfOk result (All (λ file. file.place < length names.now)) }
+    ensures texts { All IsUtf8 names.now → IfOk result (All (λ file. IsUtf8 file.path)) }
 {
     // Says that the release has 32 bits, by which the digits of a version tell it.
     let _release = kind.release();

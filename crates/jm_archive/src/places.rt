@@ -1,5 +1,5 @@
 //! Where the manifest of a JAR is.
-ghost use Rattle.std.specs.Prelude.{◌≡◌};
+ghost use Rattle.std.specs.Prelude.{◌≡◌, ◌<◌, IfSome, length};
 ghost use Rattle.std.specs.List.{list_any};
 ghost use Rattle.jm_archive.specs.Places.{is_manifest, is_of_versions, last_place, manifest_place};
 
@@ -9,7 +9,8 @@ use jm_bytes::Text;
 /// entries, in the directory's order, have one below `META-INF/versions/`, the last that is
 /// `META-INF/MANIFEST.MF` in any case of letters.
 pub fn manifest_place(names: &[Text]) -> Option<usize>
-    ensures { result ≡ manifest_place names.now }
+    ensures place { result ≡ manifest_place names.now }
+    ensures within { IfSome result (λ place. place < length names.now) }
 {
     if has_versions(names) {
         last_manifest(names)
@@ -41,7 +42,8 @@ fn is_manifest(name: &[u8]) -> bool
 
 /// The place of the last manifest.
 fn last_manifest(names: &[Text]) -> Option<usize>
-    ensures { result ≡ last_place is_manifest 0 names.now }
+    ensures last { result ≡ last_place is_manifest 0 names.now }
+    ensures within { IfSome result (λ place. place < length names.now) }
 {
     let mut last = None;
     for (place, name) in names.iter().enumerate() {

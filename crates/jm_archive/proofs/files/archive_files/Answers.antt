@@ -1,4 +1,4 @@
-use Rattle.std.proofs.Common.{◌≡◌, ◌∙◌, ap, sym, map, subst, IsFalse}
+use Rattle.std.proofs.Common.{◌<◌, All, length, IsUtf8, ◌≡◌, ◌∙◌, ap, sym, map, subst, IsFalse}
 use Rattle.std.proofs.lemmas.List.Sorted.{IsPermutation-map}
 use Rattle.std.proofs.lemmas.Result.{IfOk-weaker}
 use Rattle.jm_bytes.specs.ByteOrder.{is_before}
@@ -7,8 +7,10 @@ use Rattle.jm_names.specs.ByName.{Named}
 use Rattle.jm_archive.specs.Cuts.{candidate_of, file_of, named_of}
 use Rattle.jm_archive.specs.Files.{AreFiles}
 use Rattle.jm_archive.specs.ComputedFiles.{files_of}
+use Rattle.jm_archive.specs.declared.files.ArchiveFile.{ArchiveFile}
 use Rattle.jm_archive.proofs.ComputedFilesLaws.{are_computed}
 use Rattle.jm_archive.proofs.ChoiceLaws.{unmapped}
+use Rattle.jm_archive.proofs.EntryLaws.{files_texts, files_within}
 use Rattle.jm_archive.proofs.FileLaws.{best_files, plain_file}
 use Rattle.jm_archive.proofs.files.archive_files.Goals as goal
 
@@ -36,3 +38,15 @@ pub returns-clause-computed : goal.returns-clause-computed
 returns-clause-computed c =
     IfOk-weaker c.files_of.result (AreFiles c.args.kind c.args.names.now) (λ files. files ≡ files_of c.args.kind c.args.names.now)
     (λ files are. are_computed c.args.kind c.args.names.now files c.release-release.ensures.small c.requires are) (returns-clause-files c)
+
+pub returns-clause-within : goal.returns-clause-within
+returns-clause-within c =
+    let names = c.args.names.now in
+    IfOk-weaker c.files_of.result (AreFiles c.args.kind names) (All (λ (file : ArchiveFile). file.place < length names))
+    (λ files are. files_within c.args.kind names files are) (returns-clause-files c)
+
+pub returns-clause-texts : goal.returns-clause-texts
+returns-clause-texts c texts =
+    let names = c.args.names.now in
+    IfOk-weaker c.files_of.result (AreFiles c.args.kind names) (All (λ (file : ArchiveFile). IsUtf8 file.path))
+    (λ files are. files_texts c.args.kind names files c.release-release.ensures.small texts are) (returns-clause-files c)
