@@ -52,10 +52,10 @@ versioned_meta : (path : List ℕ) → is_meta path ≡ false → is_versioned p
 versioned_meta path other = false_from_ne_true (is_versioned path) (λ yes. false≢true (sym other
     ∙ begins_with path (codes "META-INF/") (codes "versions/" ++ drop 18 path) (begun path (codes "META-INF/versions/") yes)))
 
--- A list whose first element that passes is known
+-- A text in which the first byte that passes a test is known
 
-module _ {X : Type 0} (p : X → Bool) where
-  position_at : (xs : List X) (x : X) (ys : List X) → list_any p xs ≡ false → p x ≡ true → position_or_len p (xs ++ x ∷ ys) ≡ length xs
+module _ (p : ℕ → Bool) where
+  position_at : (xs : List ℕ) (x : ℕ) (ys : List ℕ) → list_any p xs ≡ false → p x ≡ true → position_or_len p (xs ++ x ∷ ys) ≡ length xs
   position_at [] x ys none passes = rw passes refl
   position_at (y ∷ xs) x ys none passes = go (p y) refl none (λ rest. position_at xs x ys rest passes)
     where
@@ -64,13 +64,13 @@ module _ {X : Type 0} (p : X → Bool) where
       go true e none rest = absurd (cc)
       go false e none rest = rw e (omega (arith, rest none))
 
-before_slash : (digits path : List ℕ) → list_any is_slash digits ≡ false → before_first is_slash (digits ++ 47 ∷ path) ≡ digits
-before_slash digits path none =
-    ap (λ n. take n (digits ++ 47 ∷ path)) (position_at is_slash digits 47 path none refl) ∙ take_at digits (47 ∷ path) (length digits) refl
+  before_at : (xs : List ℕ) (x : ℕ) (ys : List ℕ) → list_any p xs ≡ false → p x ≡ true → before_first p (xs ++ x ∷ ys) ≡ xs
+  before_at xs x ys none passes =
+      ap (λ n. take n (xs ++ x ∷ ys)) (position_at xs x ys none passes) ∙ take_at xs (x ∷ ys) (length xs) refl
 
-after_slash : (digits path : List ℕ) → list_any is_slash digits ≡ false → after_first is_slash (digits ++ 47 ∷ path) ≡ path
-after_slash digits path none =
-    ap (λ n. drop (n + 1) (digits ++ 47 ∷ path)) (position_at is_slash digits 47 path none refl) ∙ drop_front digits (47 ∷ path) 1
+  after_at : (xs : List ℕ) (x : ℕ) (ys : List ℕ) → list_any p xs ≡ false → p x ≡ true → after_first p (xs ++ x ∷ ys) ≡ ys
+  after_at xs x ys none passes =
+      ap (λ n. drop (n + 1) (xs ++ x ∷ ys)) (position_at xs x ys none passes) ∙ drop_front xs (x ∷ ys) 1
 
 digits_no_slash : (digits : List ℕ) → AllDigits 10 digits → list_any is_slash digits ≡ false
 digits_no_slash [] all = refl
@@ -197,8 +197,8 @@ digits_cut place release path version name small other there is =
     rw (
       ← whole,
       any_behind is_slash (decimal version) (47 ∷ path) refl,
-      after_slash (decimal version) path none,
-      before_slash (decimal version) path none,
+      after_at is_slash (decimal version) 47 path none refl,
+      before_at is_slash (decimal version) 47 path none refl,
       other,
       found,
     ) refl
