@@ -1,4 +1,5 @@
--- The path and the version of which a name is that of an entry: the computed form of `entry_name`.
+-- What the name of an entry is cut to: the path and the version of which it is the name. It is the
+-- computed form of `entry_name`, the other way round.
 use Rattle.std.specs.Prelude.{ℕ, ◌≡◌, ◌<◌, ◌≤◌, ◌^◌, nat_eq, nat_le, not, Bool, ◌&&◌}
 use Rattle.std.specs.Prelude.{if◌then◌else◌, List, [], length, drop, AllPairs, Contains, IsTrue}
 use Rattle.std.specs.Prelude.{codes, Option, Some, None, option_map, slice_get, slice_index}
@@ -34,7 +35,7 @@ leads digits = nat_le 49 (slice_index digits 0) && nat_le (slice_index digits 0)
 abbrev pub version_of : ℕ → List ℕ → Option ℕ
 version_of release digits = find (λ version. bytes_eq (decimal version) digits) (versions release)
 
--- the cut of what stands below `META-INF/versions/`
+-- what a name is cut to by what stands below `META-INF/versions/` in it
 abbrev pub version_cut : ℕ → ℕ → List ℕ → Option Candidate
 version_cut place release rest =
     if list_any is_slash rest && not (is_meta (after_first is_slash rest))
@@ -43,27 +44,28 @@ version_cut place release rest =
     (version_of release (before_first is_slash rest))
     else None
 
--- the candidate for a path without a version
+-- what the name of a path without a version is cut to
 abbrev pub plain : ℕ → List ℕ → Candidate
 plain place path = record { path = path; version = 0; place = place }
 
--- the cut of a name in a multi-release JAR, by what stands behind `META-INF/versions/`
+-- what a name in a multi-release JAR is cut to, by what stands behind `META-INF/versions/` if it
+-- begins so
 abbrev pub released_cut : ℕ → ℕ → List ℕ → Option (List ℕ) → Option Candidate
 released_cut place release name None = Some (plain place name)
 released_cut place release name (Some rest) = version_cut place release rest
 
--- the cut of the name of the entry at a place, where that is no folder's
+-- what the name of the entry at a place is cut to, where it is no folder's
 abbrev pub name_cut : ArchiveKind → ℕ → List ℕ → Option Candidate
 name_cut Jmod place name = option_map (plain place) (behind (codes "classes/") name)
 name_cut Jar place name = Some (plain place name)
 name_cut (MultiRelease release) place name =
     released_cut place release name (behind (codes "META-INF/versions/") name)
 
--- the cut of any name
+-- what any name of an entry at a place is cut to; that of a folder to nothing
 abbrev pub cut_of : ArchiveKind → ℕ → List ℕ → Option Candidate
 cut_of kind place name = if is_folder name then None else name_cut kind place name
 
--- the candidates of all entries, in the directory's order
+-- what all names are cut to, in the directory's order
 abbrev pub candidates : ArchiveKind → List (List ℕ) → List Candidate
 candidates kind names =
     filter_map (λ place. option_and_then (cut_of kind place) (slice_get names place))

@@ -21,10 +21,11 @@ is_folder name = ends_with nat_eq name (47 ∷ [])
 abbrev pub file_named : List (List ℕ) → List ℕ → Option ℕ
 file_named names name = if is_folder name then None else position (bytes_eq name) names
 
--- a path stands below META-INF, and below its versions
+-- a path stands below `META-INF/`
 abbrev pub is_meta : List ℕ → Bool
 is_meta path = starts_with nat_eq path (codes "META-INF/")
 
+-- a path stands below `META-INF/versions/`
 abbrev pub is_versioned : List ℕ → Bool
 is_versioned path = starts_with nat_eq path (codes "META-INF/versions/")
 
@@ -33,8 +34,9 @@ abbrev pub versions : ℕ → List ℕ
 versions zero = []
 versions (suc n) = if nat_le 9 (suc n) then suc n ∷ versions n else []
 
--- the versions of a path that may have an entry of their own, the greatest first. 0 stands for the
--- path without a version, which comes last
+-- the versions by which a path is looked for, the greatest first; 0 stands for the path without a
+-- version. In a multi-release JAR nothing below `META-INF/versions/` is a file of its own, and what
+-- else is below `META-INF/` has no versions
 abbrev pub versions_of : ArchiveKind → List ℕ → List ℕ
 versions_of Jmod path = 0 ∷ []
 versions_of Jar path = 0 ∷ []
@@ -43,13 +45,14 @@ versions_of (MultiRelease release) path =
     else if is_meta path then 0 ∷ []
     else versions release ++ 0 ∷ []
 
--- the name of the entry of a path for a version
+-- the name of the entry of a version of a path: the path itself, or in the folder of the version,
+-- whose name is decimal without a leading zero
 abbrev pub versioned_name : List ℕ → ℕ → List ℕ
 versioned_name path version =
     if version == 0 then path
     else codes "META-INF/versions/" ++ (decimal version ++ 47 ∷ path)
 
--- the name of the entry of a path, which for a multi-release JAR goes by the version
+-- the name of the entry of a version of a path, which for a jmod is below `classes/`
 abbrev pub entry_name : ArchiveKind → List ℕ → ℕ → List ℕ
 entry_name Jmod path version = codes "classes/" ++ path
 entry_name Jar path version = path
@@ -65,7 +68,8 @@ abbrev pub file_at : ArchiveKind → List (List ℕ) → List ℕ → Option ℕ
 file_at kind names path =
     first_place (λ version. file_named names (entry_name kind path version)) (versions_of kind path)
 
--- the rule: the files rise by path, and are those that the archive has
+-- the rule: the files rise by path, and a path and a place are a file exactly where the archive has
+-- that path, with the entry at that place
 pub record AreFiles (kind : ArchiveKind) (names : List (List ℕ)) (files : List ArchiveFile)
     : Type 0 where
   pub rising : AllPairs (λ file later. IsTrue (is_before file.path later.path)) files

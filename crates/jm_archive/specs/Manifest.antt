@@ -59,11 +59,11 @@ is_true line = line.is_ended && bytes_eq (lowered line.text) (codes "multi-relea
 abbrev pub continues : Line → Bool
 continues line = starts_with nat_eq line.text (32 ∷ [])
 
--- the lines behind one: those that continue it hold more than their space
+-- of the lines behind one, those that continue it hold more than their space
 abbrev pub is_continued : List Line → Bool
 is_continued later = list_any (λ line. nat_lt 1 (length line.text)) (take_while continues later)
 
--- the last of the lines that is named so says it
+-- the last of the lines that begins with `Multi-Release:` says it
 abbrev pub says : List Line → Bool
 says [] = false
 says (line ∷ later) =
