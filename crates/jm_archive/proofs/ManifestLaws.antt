@@ -70,9 +70,9 @@ lines_unended (byte ∷ bytes) some none = one_line (byte ∷ bytes) none
 
 -- The main section
 
-pub main_line : (all rest : List Line) (line : Line) → all ≡ line ∷ rest → 0 < length line.text
+pub main_on : (all rest : List Line) (line : Line) → all ≡ line ∷ rest → 0 < length line.text
     → before_first is_blank all ≡ line ∷ before_first is_blank rest
-main_line all rest line is some =
+main_on all rest line is some =
     let full : is_blank line ≡ false = grind (arith, nat_tests) in
     ap (before_first is_blank) is ∙ take_while-cons (λ other. not (is_blank other)) line rest
     ∙ ap (λ b. cond (not b) (line ∷ before_first is_blank rest) []) full

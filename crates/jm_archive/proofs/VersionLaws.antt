@@ -11,6 +11,8 @@ use Rattle.std.proofs.lemmas.Slice.Eq.{bytes_eq-Decides}
 use Rattle.std.proofs.lemmas.Str.{IsUtf8-from_ascii}
 use Rattle.std.proofs.lemmas.Str.Parse.{digit_from_value, numerals_by_value, tells_digits}
 use Rattle.std.specs.Fmt.{decimal}
+use Rattle.std.specs.Option.{IfNone, IfSome}
+use Rattle.std.specs.Result.{result_ok}
 use Rattle.std.specs.Str.{IsUtf8, bytes_eq}
 use Rattle.std.specs.Str.Parse.{AllDigits, ParsesUnsigned, without_leading_plus}
 use Rattle.jm_bytes.proofs.Finds.{find_none, find_only}
@@ -42,10 +44,10 @@ no_plus digits first =
     ap (λ b. drop (cond b 1 0) digits) other
 
 -- a number that is parsed has these digits
-pub parsed_some : {E : Type 0} (digits : List ℕ) (r : Result ℕ E) (n : ℕ) → leads digits ≡ true → ParsesUnsigned 32 10 digits r
-    → r ≡ Ok n → decimal n ≡ digits
-parsed_some {E} digits r n first parses is =
-    let told = subst (λ s. ParsesUnsigned 32 10 digits s) is parses in
+pub parsed_some : {E : Type 0} (digits : List ℕ) (r : Result ℕ E) → leads digits ≡ true → ParsesUnsigned 32 10 digits r
+    → IfSome (result_ok r) (λ n. decimal n ≡ digits)
+parsed_some digits (Err e) first told = tt
+parsed_some digits (Ok n) first told =
     let own = no_plus digits first in
     let low = leb-true 49 (slice_index digits 0) (and_parts (nat_le 49 (slice_index digits 0)) (nat_le (slice_index digits 0) 57) first).0 in
     let numeral = rw own at told.0.0 in
@@ -55,10 +57,11 @@ parsed_some {E} digits r n first parses is =
     (λ zero_first. absurd (omega arith)) (omega arith)
 
 -- where none is parsed, no number has them
-pub parsed_none : {E : Type 0} (digits : List ℕ) (r : Result ℕ E) (e : E) → ParsesUnsigned 32 10 digits r → r ≡ Err e
-    → (n : ℕ) → 0 < n → n < 2 ^ 32 → decimal n ≢ digits
-parsed_none digits r e parses is n some small same =
-    let ok = parse-decimal 32 n digits r small (omega arith) (sym same) parses in
+pub parsed_none : {E : Type 0} (digits : List ℕ) (r : Result ℕ E) → ParsesUnsigned 32 10 digits r
+    → IfNone (result_ok r) ((n : ℕ) → 0 < n → n < 2 ^ 32 → decimal n ≢ digits)
+parsed_none digits (Ok n) parses = tt
+parsed_none digits (Err e) parses = λ n some small same.
+    let ok = parse-decimal 32 n digits (Err e) small (omega arith) (sym same) parses in
     cc
 
 -- Versions for a release

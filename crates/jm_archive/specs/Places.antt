@@ -1,5 +1,6 @@
--- Where the manifest of a JAR is (JAR File Specification of Java SE, "The META-INF directory"; any
--- case of letters, and the last of several, as OpenJDK's `ZipFile` has it), and when it is asked for.
+-- Where the manifest of a JAR is (JAR File Specification of Java SE, "The META-INF directory"; in any
+-- case of letters, and the last of several, as OpenJDK's `ZipFile` has it), and when it is asked
+-- for.
 use Rattle.std.specs.Prelude.{ℕ, ◌+◌, nat_lt, Bool, ◌&&◌, if◌then◌else◌, List, [], ◌∷◌, length}
 use Rattle.std.specs.Prelude.{codes, Option, Some, None}
 use Rattle.std.specs.List.{list_any}

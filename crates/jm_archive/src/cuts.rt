@@ -118,8 +118,5 @@ fn parsed(text: &str) -> Option<u32>
     ensures fits { IfSome result (λ n. n < 2 ^ 32) }
     ensures none { IfNone result ((n : ℕ) → 0 < n → n < 2 ^ 32 → decimal n ≢ text.now) }
 {
-    match text.parse::<u32>() {
-        Ok(number) => Some(number),
-        Err(_) => None,
-    }
+    text.parse::<u32>().ok()
 }

@@ -34,7 +34,7 @@ pub fn says_multi_release(manifest: &[u8]) -> bool
 }
 
 /// The first line, if it is one of the main section, as no empty one is.
-#[tactic(auto, using(crate::proofs::ManifestLaws::main_line, crate::proofs::ManifestLaws::main_end))]
+#[tactic(auto, using(crate::proofs::ManifestLaws::main_on, crate::proofs::ManifestLaws::main_end))]
 fn first_main_line(bytes: &[u8]) -> Option<FirstLine<'_>>
     ensures some { IfSome result
         (λ line. main_lines bytes.now ≡ line_of line ∷ main_lines line.rest.now) }
