@@ -52,8 +52,8 @@ fn hint_on<S: Shelf>(
         Told::NoModule => no_module_hint(alloc, given(alloc, words)?.as_slice()),
         Told::Compressed => Ok(Some(String::from_str(
             alloc,
-            "the image is compressed: link it again by jlink without --compress, \
-             or take its files out by jimage extract",
+            "the image is compressed: jm_tool decompress IMAGE --output FILE \
+             writes it uncompressed",
         )?)),
         Told::NoImage => no_image_hint(alloc, given(alloc, words)?.as_slice(), shelf),
     }
