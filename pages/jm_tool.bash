@@ -9,7 +9,7 @@ _jm_tool() {
   local -a place=()
   COMPREPLY=()
   if [ "$at" = 1 ]; then
-    _jm_tool_words "link cat list ls info extract verify serve gen describe --help --version"
+    _jm_tool_words "link cat list ls info extract verify decompress serve gen describe --help --version"
     return
   fi
   # bash takes = and : as words of their own.
@@ -40,6 +40,7 @@ _jm_tool() {
     info) options='--jobs' place=(file) ;;
     extract) options='--dir --include --jobs' place=(file) ;;
     verify) options='--nodes --jobs' place=(file) ;;
+    decompress) options='--output --jobs' place=(file) ;;
     serve) options='--jobs' place=(file) ;;
     gen) options='--modules --classes --seed --jobs' place=(folder) ;;
     describe) options='--release --jobs' place=(file) ;;

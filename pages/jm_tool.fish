@@ -7,6 +7,7 @@ complete -c jm_tool -n __fish_use_subcommand -a 'ls' -d 'prints what a folder of
 complete -c jm_tool -n __fish_use_subcommand -a 'info' -d 'prints what the header says'
 complete -c jm_tool -n __fish_use_subcommand -a 'extract' -d 'writes each resource to a file below DIR'
 complete -c jm_tool -n __fish_use_subcommand -a 'verify' -d 'checks the structure of the image and prints the number of its entries'
+complete -c jm_tool -n __fish_use_subcommand -a 'decompress' -d 'writes the image of the resources of a compressed image, uncompressed'
 complete -c jm_tool -n __fish_use_subcommand -a 'serve' -d 'answers the lines of the input'
 complete -c jm_tool -n __fish_use_subcommand -a 'gen' -d 'makes modules below DIR and links them'
 complete -c jm_tool -n __fish_use_subcommand -a 'describe' -d 'prints what a module-info.class says'
@@ -44,6 +45,9 @@ complete -c jm_tool -n '__fish_seen_subcommand_from extract' -l jobs -x -d 'uses
 complete -c jm_tool -n '__fish_seen_subcommand_from verify' -F
 complete -c jm_tool -n '__fish_seen_subcommand_from verify' -l nodes -d 'also checks the contents of the nodes of the two trees'
 complete -c jm_tool -n '__fish_seen_subcommand_from verify' -l jobs -x -d 'uses up to N threads, from 1 to 64; the output is the same'
+complete -c jm_tool -n '__fish_seen_subcommand_from decompress' -F
+complete -c jm_tool -n '__fish_seen_subcommand_from decompress' -l output -r -F
+complete -c jm_tool -n '__fish_seen_subcommand_from decompress' -l jobs -x -d 'uses up to N threads, from 1 to 64; the output is the same'
 complete -c jm_tool -n '__fish_seen_subcommand_from serve' -F
 complete -c jm_tool -n '__fish_seen_subcommand_from serve' -l jobs -x -d 'uses up to N threads, from 1 to 64; the output is the same'
 complete -c jm_tool -n '__fish_seen_subcommand_from gen' -a '(__fish_complete_directories)'
