@@ -141,6 +141,7 @@ fn put_task(line: &mut String, task: &Task) -> Result<(), AllocError> {
     match task {
         Task::Link(task) => put_link(line, task),
         Task::Image { image, work } => put_work(line, image, work),
+        Task::Decompress(task) => put_file(line, "decompress", &task.image, Some(&task.output)),
         Task::Gen(task) => put_file(line, "gen", &task.dir, None),
         Task::Describe { file, .. } => put_file(line, "describe", file, None),
         Task::Help => line.push_str("--help"),
