@@ -16,3 +16,5 @@ mod plugins;
 mod pools;
 #[cfg(test)]
 mod words_and_texts;
+#[cfg(test)]
+mod zips;
