@@ -1,5 +1,5 @@
 -- Entries whose contents were read one after another are those of a file of the index by which they were read.
-use Rattle.std.proofs.Common.{inl, inr, ◌≡◌, ◌≢◌, ℕ, true, Bool, List, [], ◌∷◌, ◌++◌, drop, length, map, All, AllPairs, Contains, Option}
+use Rattle.std.proofs.Common.{inl, inr, ◌≡◌, ◌≢◌, ℕ, Bool, List, [], ◌∷◌, ◌++◌, drop, length, map, All, AllPairs, Contains, Option}
 use Rattle.std.proofs.Common.{Some, None, IsTrue, option_map, refl, sym, ap, subst, ◌∙◌, arith}
 use Rattle.std.proofs.lemmas.List.Elements.{All-contains}
 use Rattle.std.proofs.lemmas.List.Kept.{AllPairs-cons}
@@ -21,7 +21,7 @@ use Rattle.jm_reader.proofs.IndexLaws.{file_begins, file_with}
 use Rattle.jm_valid.specs.Opened.{Front}
 use Rattle.jm_filed.specs.Filed.{IsAt, IsFiled, IsIndexAt, IsReadAt, IsWithin, content_at}
 use Rattle.jm_filed.specs.FirstRead.{AreFirstRead, IsEntryRead}
-use Rattle.jm_filed.specs.Parts.{AgreeByName, AreRead, HasContents, HasSizes, named}
+use Rattle.jm_filed.specs.Parts.{AgreeByName, AreRead, AreReadOf, HasContents, IsSizedIn, all_named, named}
 use Rattle.jm_filed.specs.Taken.{LieWithin, content_in, named_among, named_of, taken_as}
 use Rattle.jm_filed.specs.declared.extent.Extent.{Extent}
 use Rattle.jm_filed.specs.declared.taking.TakenEntry.{TakenEntry}
@@ -32,7 +32,7 @@ use Rattle.jm_filed.proofs.TakingLaws.{entries_apart, taken_differ}
 -- Names and contents
 
 -- where names differ, one name has one content
-agreed : (es : List Named) → AllPairs Differ es → AgreeByName es
+pub agreed : (es : List Named) → AllPairs Differ es → AgreeByName es
 agreed [] differ p q there too same = absurd (contains_none p there)
 agreed (e ∷ es) differ p q there too same =
     elim (contains_cases e es p there) [
@@ -108,6 +108,30 @@ text_at None path b x text at read = tt
 text_at (Some files) path b x text at read =
     sym (same_some (content_at b x) text (ap (option_map (λ bytes. part bytes x.at x.size)) at ∙ read.shown))
 
+-- what stands under names of each file of an index, read where it stands and each name once, is read of it
+module _ (index : Front) (told : Option Files) (path : List ℕ) (all : List ℕ → List Named) (read : List Named)
+    (as_read : (b : List ℕ) → IsFileOf index.bytes index.length b → (p : Named) → Contains read p
+    → (x : Extent) × IsReadAt told path x p.1 × IsWithin index.length x × Contains (all b) (p.0, content_at b x)) where
+  sized : (b : List ℕ) → IsFiled index told path b → All (IsSizedIn (all b)) read
+  sized b filed = all_from_contains (IsSizedIn (all b)) read (λ p there.
+      let from = as_read b filed.0 p there in (
+        content_at b from.0,
+        from.3,
+        content_length index.length b from.0 filed.0.length_is from.2 ∙ sym from.1.size,
+      ))
+
+  contained : (told_too : Option Files) → told_too ≡ told → (b : List ℕ) → IsFiled index told path b
+      → Shows told_too (λ files. All (Contains (all b)) read)
+  contained None is b filed = tt
+  contained (Some files) is b filed = all_from_contains (Contains (all b)) read (λ p there.
+      let from = as_read b filed.0 p there in
+      let text = subst (λ (t : Option Files). Shows t (λ files. p.1 ≡ content_at b from.0)) (sym is)
+      (text_at told path b from.0 p.1 filed.1 from.1) in
+      subst (λ content. Contains (all b) (p.0, content)) (sym text) from.3)
+
+  pub read_of : AllPairs Differ read → AreReadOf all index told path read
+  read_of differ = record { agree = agreed read differ; sizes = sized; contents = contained told refl }
+
 module _ (index : Front) (told : Option Files) (path : List ℕ) (passes : List ℕ → Bool) (ts : List TakenEntry)
     (are : (b : List ℕ) → IsFileOf index.bytes index.length b → map (taken_as b) ts ≡ named_of passes b)
     (within : LieWithin index.length ts) (read : List Named) (first : AreFirstRead told path ts read) where
@@ -120,10 +144,10 @@ module _ (index : Front) (told : Option Files) (path : List ℕ) (passes : List 
       (from_filter (λ (e : Named). passes e.0) (map named (entries_of b)) (taken_as b t) passed).0
 
   -- and what was read, with the content of the file
-  as_read : (b : List ℕ) → IsFileOf index.bytes index.length b → (p : Named) → Contains read p
+  as_first : (b : List ℕ) → IsFileOf index.bytes index.length b → (p : Named) → Contains read p
       → (x : Extent) × IsReadAt told path x p.1 × IsWithin index.length x
-      × Contains (map named (entries_of b)) (p.0, content_at b x)
-  as_read b file p there =
+      × Contains (all_named b) (p.0, content_at b x)
+  as_first b file p there =
       let from = beside told path ts read first p there in (
         from.0.content,
         from.2.1,
@@ -131,30 +155,8 @@ module _ (index : Front) (told : Option Files) (path : List ℕ) (passes : List 
         subst (λ n. Contains (map named (entries_of b)) (n, content_in b from.0)) (sym from.2.0) (among b file from.0 from.1),
       )
 
-  sized : (b : List ℕ) → IsFiled index told path b → HasSizes b read
-  sized b filed = all_from_contains (λ (p : Named). (content : List ℕ) × Contains (map named (entries_of b)) (p.0, content)
-      × (length content ≡ length p.1)) read (λ p there.
-      let from = as_read b filed.0 p there in (
-        content_at b from.0,
-        from.3,
-        content_length index.length b from.0 filed.0.length_is from.2 ∙ sym from.1.size,
-      ))
-
-  contained : (told_too : Option Files) → told_too ≡ told → (b : List ℕ) → IsFiled index told path b
-      → Shows told_too (λ files. HasContents b read)
-  contained None is b filed = tt
-  contained (Some files) is b filed = all_from_contains (Contains (map named (entries_of b))) read (λ p there.
-      let from = as_read b filed.0 p there in
-      let text = subst (λ (t : Option Files). Shows t (λ files. p.1 ≡ content_at b from.0)) (sym is)
-      (text_at told path b from.0 p.1 filed.1 from.1) in
-      subst (λ content. Contains (map named (entries_of b)) (p.0, content)) (sym text) from.3)
-
   are_read : (b : List ℕ) → IsFileOf index.bytes index.length b → AreRead index told path read
-  are_read b file = record {
-    agree = agreed read (read_differ told path b ts read differ first);
-    sizes = sized;
-    contents = contained told refl;
-  }
+  are_read b file = read_of index told path all_named read as_first (read_differ told path b ts read differ first)
     where
       rises : AllPairs Differ (named_of passes b)
       rises = pairs_weaker (λ (e f : Named). IsTrue (is_before e.0 f.0)) Differ

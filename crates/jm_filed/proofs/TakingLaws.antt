@@ -1,5 +1,5 @@
 -- The taken entries, one entry after another and in the order of a sort.
-use Rattle.std.proofs.Common.{◌≡◌, ℕ, Bool, true, false, cond, List, [], ◌∷◌, ◌++◌, map, Option, AllPairs}
+use Rattle.std.proofs.Common.{◌≡◌, ℕ, Bool, true, false, cond, List, [], ◌∷◌, ◌++◌, map, AllPairs}
 use Rattle.std.proofs.Common.{Result, Ok, Err, IsPermutation, refl, sym, ap, subst, ◌∙◌, append_assoc, append-nil}
 use Rattle.std.proofs.lemmas.List.{map-append}
 use Rattle.std.proofs.lemmas.List.Kept.{AllPairs-filter}
@@ -67,12 +67,17 @@ taken_left passes b ts us e leaves same =
 
 -- The names of the entries of an image differ
 
-entries_apart_with : (b : List ℕ) (header : Result Header HeaderFault) → AllPairs Differ (map named (entries_with b header))
-entries_apart_with b (Err fault) = pairs_none Differ
-entries_apart_with b (Ok h) = pairs_map Differ named (entries b h) (entries_differ b h)
+apart_with : (text_of : Entry → List ℕ) (b : List ℕ) (header : Result Header HeaderFault)
+    → AllPairs Differ (map (λ e. (e.name, text_of e)) (entries_with b header))
+apart_with text_of b (Err fault) = pairs_none Differ
+apart_with text_of b (Ok h) = pairs_map Differ (λ (e : Entry). (e.name, text_of e)) (entries b h) (entries_differ b h)
+
+-- whatever stands with them
+pub names_apart : (text_of : Entry → List ℕ) (b : List ℕ) → AllPairs Differ (map (λ e. (e.name, text_of e)) (entries_of b))
+names_apart text_of b = apart_with text_of b (header_of b)
 
 pub entries_apart : (b : List ℕ) → AllPairs Differ (map named (entries_of b))
-entries_apart b = entries_apart_with b (header_of b)
+entries_apart b = names_apart (λ e. e.content) b
 
 pub taken_differ : (passes : List ℕ → Bool) (b : List ℕ) → AllPairs Differ (named_among passes (entries_of b))
 taken_differ passes b = AllPairs-filter Differ (λ e. passes e.0) (map named (entries_of b)) (entries_apart b)
