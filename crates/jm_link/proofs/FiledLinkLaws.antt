@@ -43,7 +43,7 @@ use Rattle.jm_link.proofs.LinkingLaws.{ended, links_as}
 use Rattle.jm_link.proofs.PartLaws.{resource_entry, same_content, same_sizes}
 
 -- a step ended the work with its answer, or since a call of the shelf gave up
-stopped : (Comes : Result LinkedImage Refusal → Type 0) (Refuses : Refusal → Type 0) (path : List ℕ) (given : LinkStop)
+pub stopped : (Comes : Result LinkedImage Refusal → Type 0) (Refuses : Refusal → Type 0) (path : List ℕ) (given : LinkStop)
     (old new : ShelfSeen) → new.told ≡ old.told → StepStops Refuses ⊥ (Unit {0}) given
     → ((r : Refusal) → Refuses r → Comes (Err r)) → (given ≡ stop.Outside → ShelfFailed old new)
     → LinksBy Comes ⊥ path (Err given) old new
