@@ -1,7 +1,7 @@
 -- The contents of resources, from what was answered for each.
 use Rattle.std.proofs.Common.{◌≡◌, ◌≢◌, inl, inr, ℕ, List, [], ◌∷◌, ◌++◌, map, All, AllPairs, None, Result, Ok, Err}
 use Rattle.std.proofs.Common.{refl, sym, ap, ◌∙◌, subst}
-use Rattle.std.proofs.lemmas.List.Elements.{All-cons, All-nil}
+use Rattle.std.proofs.lemmas.List.Elements.{All-cons, All-head, All-nil, All-tail}
 use Rattle.std.specs.List.{AllZip}
 use Rattle.jm_bytes.proofs.Pairs.{pairs_map}
 use Rattle.jm_bytes.specs.declared.faults.Or.{Or}
@@ -19,12 +19,13 @@ use Rattle.jm_packed.specs.Packed.{ContentComes}
 use Rattle.jm_pool.specs.Pairs.{bytes_of, names_of}
 use Rattle.jm_reader.specs.Look.{head}
 use Rattle.jm_texts.specs.declared.refusal.Refusal.TheVariants as refusal
+use Rattle.jm_decompress.specs.declared.held.HeldResource.{HeldResource}
 use Rattle.jm_decompress.specs.declared.resources.StoredResource.{StoredResource}
 use Rattle.jm_decompress.specs.Decompressed.{ContentIs, IsContentOf, stored_bytes}
-use Rattle.jm_decompress.specs.Steps.{ContentGives, ContentsGive, NewAtEach, PutsAll, had}
+use Rattle.jm_decompress.specs.Steps.{AreHeld, AreTextsOf, ContentGives, ContentsGive, IsHeld, NewAtEach, PutsAll, had}
 use Rattle.jm_decompress.proofs.ResourceLaws.{Apart}
 
-abbrev Answer : Type 0
+abbrev pub Answer : Type 0
 Answer = Result Written LinkStop
 
 -- the content of a resource can't be had
@@ -35,6 +36,21 @@ pub not_had : (b : List ℕ) (r : StoredResource) (name : List ℕ) (error : Or 
 not_had b r name (or.Fault fault) order texts stored same one two three comes =
     (fault, rw (one, two, three) at comes, ap (λ (n : List ℕ). refusal.Packed n fault) same)
 not_had b r name or.Memory order texts stored same one two three comes = tt
+
+-- what was answered of resources that stand with their stored bytes
+abbrev pub HeldGives : Order → List ℕ → HeldResource → Answer → Type 0
+HeldGives order texts h answer = (b : List ℕ) → AreTextsOf b order texts → IsHeld b h → ContentGives b h.resource answer
+
+-- is the answer for their resources
+pub gives_each : (b : List ℕ) (order : Order) (texts : List ℕ) → AreTextsOf b order texts → (hs : List HeldResource)
+    (all : List Answer) → AreHeld b hs → AllZip (HeldGives order texts) hs all → AllZip (ContentGives b) (map (λ h. h.resource) hs) all
+gives_each b order texts are [] [] held zipped = tt
+gives_each b order texts are [] (a ∷ all) held zipped = absurd zipped
+gives_each b order texts are (h ∷ hs) [] held zipped = absurd zipped
+gives_each b order texts are (h ∷ hs) (a ∷ all) held zipped = (
+  zipped.0 b are (All-head (IsHeld b) h hs held),
+  gives_each b order texts are hs all (All-tail (IsHeld b) h hs held) zipped.1,
+)
 
 -- the resources of pairs that were had, of the answer after these, and of the answers behind it
 record Parts (b : List ℕ) (rs : List StoredResource) (done : List Written) (one : Answer) : Type 0 where

@@ -1,7 +1,10 @@
 -- What a `decompress` does, from what its steps did.
 use Rattle.std.proofs.Common.{◌≡◌, false, ℕ, List, [], ◌∷◌, Option, Result, Ok, Err, refl, sym, ap, ◌∙◌, subst}
 use Rattle.jm_bytes.specs.declared.words.Order.{Order}
+use Rattle.jm_form.specs.declared.container.Header.{Header}
 use Rattle.jm_form.specs.Layout.{Written}
+use Rattle.jm_form.specs.Places.{strings}
+use Rattle.jm_form.specs.Validity.{StoredAs}
 use Rattle.jm_link.specs.Linked.{IsPluggedTo, LinkedImage, PlugsTo, Request}
 use Rattle.jm_link.specs.Links.{IsLaid, PoolComesTo}
 use Rattle.jm_link.specs.Resources.{AreFit}
@@ -10,12 +13,17 @@ use Rattle.jm_plugins.specs.Matching.{kept}
 use Rattle.jm_plugins.specs.Plugins.{GoesOn}
 use Rattle.jm_pool.specs.Pairs.{names_of}
 use Rattle.jm_reader.specs.Look.{head}
+use Rattle.jm_reader.proofs.HeadLaws.{head_is}
 use Rattle.jm_texts.specs.declared.refusal.Refusal.{Refusal}
 use Rattle.jm_words.specs.declared.tasks.Plugin.TheVariants as plugin
 use Rattle.jm_decompress.specs.declared.told.ToldResources.{ToldResources}
 use Rattle.jm_decompress.specs.Decompressed.{AreContents, DecompressComes, IsJudgedTo, IsLaidTo, laid}
-use Rattle.jm_decompress.specs.Steps.{AreTold, IsRefusedBy}
+use Rattle.jm_decompress.specs.Steps.{AreTextsOf, AreTold, IsRefusedBy}
 use Rattle.jm_decompress.proofs.ContentLaws.{same_names}
+
+-- the byte order of the header, and the strings that were read
+pub texts_of : (b : List ℕ) (h : Header) (texts : List ℕ) → StoredAs b h → texts ≡ strings b (head b) → AreTextsOf b h.order texts
+texts_of b h texts valid are = record { order = ap (λ (g : Header). g.order) (sym (head_is b h valid.header)); strings = are }
 
 -- contents are written as by a link that keeps an order
 abbrev pub asked : Order → List (List ℕ) → Request

@@ -1,5 +1,6 @@
 pub mod ContentLaws
 pub mod DecompressLaws
+pub mod HeldLaws
 pub mod OnceLaws
 pub mod ResourceLaws
 pub mod Vectors

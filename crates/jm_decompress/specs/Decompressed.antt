@@ -67,6 +67,14 @@ index_refusal rs =
 
 -- The contents
 
+-- how many bytes resources have together as they are stored
+abbrev pub stored_size : List StoredResource → ℕ
+stored_size rs = sum_by (λ r. (as_stored r.row).size) rs
+
+-- the same of all resources of an image
+abbrev pub stored_sizes : List ℕ → ℕ
+stored_sizes b = stored_size (stored_resources b)
+
 -- the stored bytes of a row: as many as its compressed size says, where that isn't 0
 abbrev pub stored_bytes : List ℕ → Row → List ℕ
 stored_bytes b row = content_of (contents b (head b)) (as_stored row)

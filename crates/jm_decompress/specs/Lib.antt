@@ -1,2 +1,3 @@
 pub mod Decompressed
+pub mod FiledDecompressed
 pub mod Steps

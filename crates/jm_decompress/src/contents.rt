@@ -1,12 +1,12 @@
 //! The contents of resources, each had of its stored bytes, on all jobs.
-ghost use Rattle.std.specs.Prelude.{◌≢◌, ◌≡◌, All, AllPairs};
+ghost use Rattle.std.specs.Prelude.{◌≢◌, ◌≡◌, ℕ, List, AllPairs, map};
 ghost use Rattle.jm_link.specs.Steps.{stop_of_fault};
 ghost use Rattle.jm_texts.specs.declared.refusal.Refusal.TheVariants.{Packed};
-ghost use Rattle.jm_decompress.specs.Steps.{ContentGives, ContentsGive, LiesIn, NewAtEach, PutsAll};
+ghost use Rattle.jm_decompress.specs.Steps.{AreHeld, AreTextsOf, ContentGives, ContentsGive};
+ghost use Rattle.jm_decompress.specs.Steps.{IsHeld, NewAtEach, PutsAll};
 
-use crate::resources::StoredResource;
-use crate::stored_image::{StoredImage, order_of, stored_bytes, strings_of};
-use jm_bytes::{List, Or, Text};
+use crate::held::HeldResource;
+use jm_bytes::{List, Or, Order, Text};
 use jm_halves::{Gate, Workers};
 use jm_link::LinkStop;
 use jm_packed::{PackedFault, content_of};
@@ -25,19 +25,20 @@ fn unpacked(name: Text, error: Or<PackedFault>) -> LinkStop
     }
 }
 
-/// The name of a resource and its content.
+/// The name of a resource and its content, by the byte order and the strings of its image.
 fn named_content(
     alloc: Global,
-    image: StoredImage,
-    resource: &StoredResource,
+    order: Order,
+    strings: &[u8],
+    held: &HeldResource,
 ) -> Result<(Text, Text), LinkStop>
-    requires { LiesIn image.index.now resource.now }
-    ensures { ContentGives image.entry.bytes.now resource.now result }
+    ensures { (b : List ℕ) → AreTextsOf b order strings.now → IsHeld b held.now
+        → ContentGives b held.now.resource result }
 {
+    let resource = &held.resource;
     let name = Text::copy_of(alloc, resource.name.as_slice())?;
-    let stored = stored_bytes(image, &resource.row);
-    let order = order_of(image);
-    match content_of(alloc, order, strings_of(image), &resource.row, stored) {
+    let stored = held.stored.as_slice();
+    match content_of(alloc, order, strings, &resource.row, stored) {
         Ok(content) => Ok((name, content)),
         Err(error) => Err(unpacked(name, error)),
     }
@@ -56,19 +57,21 @@ fn put_contents(alloc: Global, had: List<Result<(Text, Text), LinkStop>>) -> Res
     Ok(pool)
 }
 
-/// The contents of resources of an image, or the refusal of the first whose content can't be had.
-/// No content has more bytes than its row says.
+/// The contents of resources of an image, by its byte order and its strings, or the refusal of the
+/// first whose content can't be had. No content has more bytes than its row says.
 pub(crate) fn contents_of<T: Threads + Sync, G: Gate + Sync>(
     workers: &Workers<T, G>,
-    image: StoredImage,
-    resources: &[StoredResource],
+    order: Order,
+    strings: &[u8],
+    held: &[HeldResource],
 ) -> Result<Pool, LinkStop>
-    requires lie { All (LiesIn image.index.now) resources.now }
-    requires differ { AllPairs (λ r s. r.name ≢ s.name) resources.now }
-    ensures { ContentsGive image.entry.bytes.now resources.now result }
+    requires differ { AllPairs (λ h k. h.resource.name ≢ k.resource.name) held.now }
+    requires some { (b : List ℕ) × AreTextsOf b order strings.now × AreHeld b held.now }
+    ensures { (b : List ℕ) → AreTextsOf b order strings.now → AreHeld b held.now
+        → ContentsGive b (map (λ h. h.resource) held.now) result }
 {
     let alloc = workers.alloc;
-    let work = |resource: &StoredResource| named_content(alloc, image, resource);
-    let had = workers.map(resources, &work)?;
+    let work = |one: &HeldResource| named_content(alloc, order, strings, one);
+    let had = workers.map(held, &work)?;
     put_contents(alloc, had)
 }

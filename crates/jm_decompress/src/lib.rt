@@ -4,9 +4,10 @@
 
 mod contents;
 mod decompressing;
+mod held;
 mod resources;
-mod stored_image;
+mod stored_file;
 mod told;
 
 pub use decompressing::decompress;
-pub use stored_image::StoredImage;
+pub use stored_file::StoredFile;
