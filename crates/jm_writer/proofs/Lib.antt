@@ -18,6 +18,7 @@ pub mod LaidLooks
 pub mod LaidNames
 pub mod LaidNodes
 pub mod LaidOut
+pub mod LaidRows
 pub mod LaidSizes
 pub mod LaidSound
 pub mod LaidTable
