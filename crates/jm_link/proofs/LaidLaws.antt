@@ -9,11 +9,12 @@ use Rattle.jm_bytes.specs.Checks.{fault_if}
 use Rattle.jm_bytes.proofs.CheckLaws.{fault_if_none, no_fault_head, no_fault_tail}
 use Rattle.jm_bytes.specs.declared.words.Order.{Order}
 use Rattle.jm_form.specs.Greedy.{GreedyTable}
-use Rattle.jm_form.specs.Layout.{Written, all_names, all_sized, layout_table, layout_with, names_of}
+use Rattle.jm_form.specs.Layout.{Written, all_names, all_sized, layout, layout_table, layout_with, names_of}
 use Rattle.jm_form.specs.Serves.{Serves}
 use Rattle.jm_form.specs.Trees.{first_clash, node_names}
 use Rattle.jm_names.specs.NameFaults.{IsSound}
 use Rattle.jm_names.specs.Names.{is_node}
+use Rattle.jm_nodes.proofs.OrderLaws.{pairs_unmapped}
 use Rattle.jm_writer.specs.Drafts.{entry_limit, image_limit}
 use Rattle.jm_writer.specs.Laid.{CanLay, IsLaidOut}
 use Rattle.jm_writer.proofs.LaidNames.{all_names_are}
@@ -77,21 +78,33 @@ module _ (order : Order) (resources : List Written) (free : layout_refusal order
       (subst (AllPairs (λ (m n : List ℕ). m ≢ n)) (all_names_are resources) (served_apart (all_names resources) table.length _
       table.slots served.serves))
 
+  -- there is a table
+  table_there : (o : Option GreedyTable) → layout_table resources ≡ o → is_none o ≡ false → (table : GreedyTable) × (layout_table resources
+      ≡ Some table)
+  table_there None is some = cc
+  table_there (Some table) is some = (table, is)
+
+  -- so the names differ
+  pub resources_apart : AllPairs (λ (e f : Written). e.0 ≢ f.0) resources
+  resources_apart =
+      let (table, is) = table_there (layout_table resources) refl has_table in
+      pairs_unmapped (λ (m n : List ℕ). m ≢ n) (λ (r : Written). r.0) resources (apart_with table is)
+
+  -- and trees can be made of fit ones
+  pub can_lay : All IsSound (names_of resources) → All (λ name. is_node name ≡ false) (names_of resources) → CanLay resources
+  can_lay sound plain =
+      let (table, is) = table_there (layout_table resources) refl has_table in
+      record { differ = apart_with table is; plain = record { sound = sound; resources = plain; apart = apart } }
+
+  -- and the image, which is within the limit
+  pub laid_bytes : (modules : ℕ) → (layout order resources ≡ Some (image_with order modules resources).bytes)
+      × (length (image_with order modules resources).bytes ≤ image_limit)
+  laid_bytes modules =
+      let (table, is) = table_there (layout_table resources) refl has_table in
+      rw is (refl, small table is)
+
   pub laid_free : (modules : ℕ) → All IsSound (names_of resources) → All (λ name. is_node name ≡ false) (names_of resources)
       → IsLaidOut order resources (image_with order modules resources).bytes
-  laid_free modules sound plain = go (layout_table resources) refl has_table
-    where
-      go : (o : Option GreedyTable) → layout_table resources ≡ o → is_none o ≡ false
-          → IsLaidOut order resources (image_with order modules resources).bytes
-      go None is some = cc
-      go (Some table) is some =
-          let can : CanLay resources = record {
-            differ = apart_with table is;
-            plain = record {
-              sound = sound;
-              resources =
-                  plain;
-              apart = apart;
-            };
-          } in
-          rw is (laid_out order resources (layout_with order resources table) can (rw is refl) (small table is))
+  laid_free modules sound plain =
+      let (is, within) = laid_bytes modules in
+      laid_out order resources (image_with order modules resources).bytes (can_lay sound plain) is within

@@ -11,6 +11,7 @@ pub mod ImageLaws
 pub mod InfoLaws
 pub mod KeptLaws
 pub mod LaidLaws
+pub mod LaidOrder
 pub mod LinkVectors
 pub mod LinkingLaws
 pub mod ListedLaws

@@ -136,12 +136,17 @@ module _ (source : Source) (asked : Request) (image : LinkedImage) (from : IsMad
   sound = All-map IsSound (λ (r : Written). r.0) before
       (all_sound (λ (r : Written). r) before (ap first_bad_name (map-id before) ∙ made.sound))
 
+  -- nor what the plug-ins left of them
+  pub left_plain : All (λ name. is_node name ≡ false) (names_of made.left)
+  left_plain = names_kept (λ name. is_node name ≡ false) asked.release asked.plugins before made.left made.plugged plain
+
+  pub left_sound : All IsSound (names_of made.left)
+  left_sound = names_kept IsSound asked.release asked.plugins before made.left made.plugged sound
+
   pub made_laid : IsLaid asked.order (Ok image)
   made_laid =
       subst (λ (x : LinkedImage). IsLaid asked.order (Ok x)) (sym made.is)
-      (laid_free asked.order made.left made.fits (length made.places)
-      (names_kept IsSound asked.release asked.plugins before made.left made.plugged sound)
-      (names_kept (λ name. is_node name ≡ false) asked.release asked.plugins before made.left made.plugged plain))
+      (laid_free asked.order made.left made.fits (length made.places) left_sound left_plain)
 
 -- an image that was linked is what the layout of its resources is
 pub linked_laid : (source : Source) (asked : Request) (image : LinkedImage) → IsOnShelf source → LinksFrom source asked (Ok image)
