@@ -1,5 +1,6 @@
 pub mod ContentLaws
 pub mod DecompressLaws
+pub mod GivenBackLaws
 pub mod HeldLaws
 pub mod OnceLaws
 pub mod ResourceLaws
