@@ -28,15 +28,16 @@ use Rattle.jm_words.specs.declared.tasks.ImageWork.TheVariants as of
 use Rattle.jm_inspect.specs.declared.complaint.Complaint.TheVariants as complaint
 use Rattle.jm_inspect.specs.declared.stop.Stop.{Stop}
 use Rattle.jm_inspect.specs.declared.stop.Stop.TheVariants as stop
-use Rattle.jm_inspect.specs.FileParts.{Adds, Comes, HasFront, HasLength, HasPart, IsFileWithout, IsFrontOf, IsHeadOf, IsOpenFront, IsUnjudged}
-use Rattle.jm_inspect.specs.FileParts.{LacksPart, ReadsMore}
+use Rattle.jm_inspect.specs.FileParts.{Adds, Comes, HasFront, HasLength, HasPart, IsFileWithout, IsFrontOf, IsHeadOf, IsOpenFront, IsOpenFrontBy}
+use Rattle.jm_inspect.specs.FileParts.{IsUnjudged, LacksPart, ReadsMore}
 use Rattle.jm_inspect.specs.Outcome.{Outcome, damaged, image_outcome, not_there, reading}
 use Rattle.jm_inspect.specs.Stops.{stop_of_open}
 use Rattle.jm_inspect.specs.Works.{HasFile, ImageComes, JudgedComes, TextComesTo, WorkComesTo}
 use Rattle.jm_inspect.specs.Steps.{StepComesTo, WorkDoes}
 use Rattle.jm_inspect.specs.Sinks.{Seen}
 use Rattle.jm_inspect.specs.Taken.{TakesBy, TakesFrom, TakesOf, TakesOfFront, WorkTakes, front_size, front_with}
-use Rattle.jm_inspect.specs.Taken.{digests_size, extract_size, nodes_size, opened_size, sought_size, unless_damaged, work_length}
+use Rattle.jm_inspect.specs.Taken.{digests_size, extract_size, nodes_size, opened_size, opened_size_by, sought_size, unless_damaged}
+use Rattle.jm_inspect.specs.Taken.{work_length}
 use Rattle.jm_inspect.specs.World.{World, world}
 use Rattle.jm_inspect.proofs.StepLaws.{comes_behind, complains, fails_at_once, step_as}
 
@@ -285,24 +286,28 @@ takes_index told path head size h old mid new is found takes rest =
     (Some there.0, there.1, omega (arith, first, rest, most))
 
 -- the front alone
-pub takes_front : (told : Option Files) (path : List ℕ) (more : List ℕ → ℕ) (old new : ℕ) → TakesFrom told path front_size old new
-    → TakesFrom told path (opened_size more) old new
-takes_front told path more old new takes = takes_more told path front_size (opened_size more) old new (λ b. omega arith) takes
+pub takes_front : (damage_of : List ℕ → Option Damage) (told : Option Files) (path : List ℕ) (more : List ℕ → ℕ) (old new : ℕ)
+    → TakesFrom told path front_size old new → TakesFrom told path (opened_size_by damage_of more) old new
+takes_front damage_of told path more old new takes =
+    takes_more told path front_size (opened_size_by damage_of more) old new (λ b. omega arith) takes
 
 -- after the front of an image without a damage contents of it
-pub takes_opened : (told : Option Files) (path : List ℕ) (front : Front) (more : List ℕ → ℕ) (old now new : ℕ)
-    → IsOpenFront told path front → TakesOfFront front front_size old now → TakesOfFront front more now new
-    → TakesFrom told path (opened_size more) old new
-takes_opened told path front more old now new (is, sound) taken also =
+pub takes_behind : (damage_of : List ℕ → Option Damage) (told : Option Files) (path b : List ℕ) (more : List ℕ → ℕ) (old now new : ℕ)
+    → IsFileWithout damage_of told path b → now ≤ old + front_size b → new ≤ now + more b
+    → TakesFrom told path (opened_size_by damage_of more) old new
+takes_behind damage_of told path b more old now new (has, sound) first rest = (
+  Some b,
+  has,
+  subst (λ (d : Option Damage). new ≤ old + (front_size b + unless_damaged d (more b))) (sym sound) (omega (arith, first, rest)),
+)
+
+pub takes_opened : (damage_of : List ℕ → Option Damage) (told : Option Files) (path : List ℕ) (front : Front) (more : List ℕ → ℕ)
+    (old now new : ℕ) → IsOpenFrontBy damage_of told path front → TakesOfFront front front_size old now
+    → TakesOfFront front more now new → TakesFrom told path (opened_size_by damage_of more) old new
+takes_opened damage_of told path front more old now new (is, sound) taken also =
     let there = front_there told path front.bytes front.length is in
     let b = there.0 in
-    let first = taken b there.2 in
-    let rest = also b there.2 in (
-      Some b,
-      there.1,
-      subst (λ (d : Option Damage). new ≤ old + (front_size b + unless_damaged d (more b))) (sym (sound b there.2))
-          (omega (arith, first, rest)),
-    )
+    takes_behind damage_of told path b more old now new (there.1, sound b there.2) (taken b there.2) (also b there.2)
 
 -- a work may take nothing
 pub work_takes_nothing : (told : Option Files) (path : List ℕ) (does : ImageWork) (n : ℕ) → WorkTakes told path does n n
@@ -362,7 +367,8 @@ unextended told mid path old new Also size count more given same long counted wi
 
 -- An image that was opened
 
-module _ (told : Option Files) (path : List ℕ) (front : Front) (opens : IsOpenFront told path front) where
+module _ {damage_of : List ℕ → Option Damage} (told : Option Files) (path : List ℕ) (front : Front)
+    (opens : IsOpenFrontBy damage_of told path front) where
   -- a file of the front is there
   pub filed_there : (b : List ℕ) × IsFiled front told path b
   filed_there = let there = front_there told path front.bytes front.length opens.0 in (there.0, (there.2, there.1))
@@ -390,11 +396,26 @@ pub opened : (Sound : List ℕ → Outcome → Type 0) (told : Option Files) (pa
     → StepComesTo (Sound b) reading answer old new → StepComesTo (ImageComes told path Sound) reading answer old new
 opened Sound told path front b opens (whole, has) = step_as (sound_due first_damage Sound told path b (has, opens.1 b whole))
 
+-- a front that was read, of whose files no damage is told, is open
+pub front_opened : (damage_of : List ℕ → Option Damage) (told : Option Files) (path front : List ℕ) (size : ℕ) (index : Front)
+    → index ≡ record { bytes = front; length = size } → IsFrontOf told path front size
+    → ((b : List ℕ) → IsFileOf front size b → damage_of b ≡ None) → IsOpenFrontBy damage_of told path index
+front_opened damage_of told path front size index is read sound =
+    subst (λ (f : Front). IsOpenFrontBy damage_of told path f) (sym is) (read, sound)
+
 -- a file whose damage is told isn't opened
-pub unjudged : (damage_of : List ℕ → Option Damage) (told : Option Files) (path b : List ℕ) (error : OpenError) → HasFile told path (Some b)
+unjudged : (damage_of : List ℕ → Option Damage) (told : Option Files) (path b : List ℕ) (error : OpenError) → HasFile told path (Some b)
     → Reports (damage_of b) error → IsUnjudged damage_of told path (stop_of_open error)
 unjudged damage_of told path b (Damaged damage) has is = (Some b, has, (damage, is, refl))
 unjudged damage_of told path b Memory has is = tt
+
+-- nor the file of a front, whose damage is told
+pub front_unopened : (damage_of : List ℕ → Option Damage) (told : Option Files) (path front : List ℕ) (size : ℕ) (error : OpenError)
+    → IsFrontOf told path front size → ((b : List ℕ) → IsFileOf front size b → Reports (damage_of b) error)
+    → IsUnjudged damage_of told path (stop_of_open error)
+front_unopened damage_of told path front size error read damaged =
+    let there = front_there told path front size read in
+    unjudged damage_of told path there.0 error there.1 (damaged there.0 there.2)
 
 -- what a step comes to that opens the image in the file of a path, by what comes of an image without a damage
 module _ (damage_of : List ℕ → Option Damage) (Sound : List ℕ → Outcome → Type 0) (path : List ℕ) (shelf mid : ShelfSeen)

@@ -3,7 +3,7 @@ use Rattle.std.specs.Prelude.{ℕ, ◌≡◌, ◌≢◌, List, ◌++◌, length,
 use Rattle.std.specs.Prelude.{Result, Ok, Err}
 use Rattle.jm_form.specs.declared.container.Header.{Header}
 use Rattle.jm_form.specs.declared.damage.Damage.{Damage}
-use Rattle.jm_form.specs.Damages.{first_damage, stored_damage}
+use Rattle.jm_form.specs.Damages.{first_damage}
 use Rattle.jm_form.specs.Head.{HoldsIndex, IsFileOf, header_with, index_length}
 use Rattle.jm_outside.specs.Files.{Files, file_length, file_part}
 use Rattle.jm_outside.specs.Outcome.{Shows}
@@ -105,16 +105,21 @@ ReadsFront told path result =
 -- What opening an image comes to
 
 -- the front of a file whose image is open, which is its first bytes with its length, and the path
--- of the file: what clauses see of the code's `OpenFront`
+-- of the file: what clauses see of the code's `OpenFront` and `OpenStored`
 pub record OpenIndex : Type 0 where
   pub front : Front
   pub path : List ℕ
 
--- this is the front of the file of a path, and each file with it is an image without a damage
-abbrev pub IsOpenFront : Option Files → List ℕ → Front → Type 0
-IsOpenFront told path front =
+-- this is the front of the file of a path, and each file with it is an image without a damage, as
+-- one says which that is
+abbrev pub IsOpenFrontBy : (List ℕ → Option Damage) → Option Files → List ℕ → Front → Type 0
+IsOpenFrontBy damage_of told path front =
     IsFrontOf told path front.bytes front.length
-    × ((b : List ℕ) → IsFileOf front.bytes front.length b → first_damage b ≡ None)
+    × ((b : List ℕ) → IsFileOf front.bytes front.length b → damage_of b ≡ None)
+
+-- the same of an image in which no content may be compressed
+abbrev pub IsOpenFront : Option Files → List ℕ → Front → Type 0
+IsOpenFront told path front = IsOpenFrontBy first_damage told path front
 
 -- this is the file of a path, without a damage, as one says which that is
 abbrev pub IsFileWithout : (List ℕ → Option Damage) → Option Files → List ℕ → List ℕ → Type 0
@@ -123,10 +128,6 @@ IsFileWithout damage_of told path b = HasFile told path (Some b) × (damage_of b
 -- this is the file of a path, an image without a damage
 abbrev pub IsSoundFile : Option Files → List ℕ → List ℕ → Type 0
 IsSoundFile told path b = IsFileWithout first_damage told path b
-
--- this is the file of a path, an image without a damage that is read as stored
-abbrev pub IsStoredFile : Option Files → List ℕ → List ℕ → Type 0
-IsStoredFile told path b = IsFileWithout stored_damage told path b
 
 -- this is the complaint of a file: that none is at the path, or of its damage
 abbrev pub IsComplaint

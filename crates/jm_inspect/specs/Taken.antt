@@ -36,9 +36,13 @@ unless_damaged None more = more
 unless_damaged (Some damage) more = 0
 
 -- the bytes that are taken of a file for contents in it: the front, and these, if it is an image
--- without a damage
+-- without a damage, as one says which that is
+abbrev pub opened_size_by : (List ℕ → Option Damage) → (List ℕ → ℕ) → List ℕ → ℕ
+opened_size_by damage_of more b = front_size b + unless_damaged (damage_of b) (more b)
+
+-- the same of an image in which no content may be compressed
 abbrev pub opened_size : (List ℕ → ℕ) → List ℕ → ℕ
-opened_size more b = front_size b + unless_damaged (first_damage b) (more b)
+opened_size more b = opened_size_by first_damage more b
 
 -- those for a content that is found in it
 abbrev pub sought_size : (List ℕ → Option (Row × List ℕ)) → List ℕ → ℕ

@@ -129,7 +129,7 @@ fn file_head<S: Shelf>(alloc: Global, path: &Text, shelf: &mut S) -> Result<File
 }
 
 /// The first bytes of the file at a path: its index and no more, if it has a header.
-fn file_front<S: Shelf>(alloc: Global, path: &Text, shelf: &mut S) -> Result<FileFront, Stop>
+pub fn file_front<S: Shelf>(alloc: Global, path: &Text, shelf: &mut S) -> Result<FileFront, Stop>
     requires { IsUtf8 path.now }
     ensures files { S.files shelf.new ≡ S.files shelf.old }
     ensures reads { ReadsFront (S.files shelf.old) path.now result }

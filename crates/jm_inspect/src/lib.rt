@@ -21,7 +21,7 @@ mod serve;
 mod sought;
 mod status;
 mod stop;
-mod whole;
+mod stored;
 mod work;
 
 pub use cat::cat_command;
@@ -31,5 +31,5 @@ pub use front::{FileFront, OpenFront};
 pub use output::{put_output, put_text};
 pub use status::Status;
 pub use stop::Stop;
-pub use whole::OpenStored;
+pub use stored::OpenStored;
 pub use work::do_work;

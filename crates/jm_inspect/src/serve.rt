@@ -3,7 +3,7 @@ ghost use Rattle.std.specs.Prelude.{◌≡◌, IsOk, IsErrOf, IsUtf8, length};
 ghost use Rattle.jm_bytes.specs.Metered.{Metered};
 ghost use Rattle.jm_outside.specs.Outcome.{CountsFaults};
 ghost use Rattle.jm_jrt.specs.Sessions.{Serves};
-ghost use Rattle.jm_inspect.specs.FileParts.{IsSoundFile, Opens};
+ghost use Rattle.jm_inspect.specs.FileParts.{IsSoundFile, Opens, ReadsFile};
 ghost use Rattle.jm_inspect.specs.Ledgers.{IsLedger};
 ghost use Rattle.jm_inspect.specs.Outcome.{reading};
 ghost use Rattle.jm_inspect.specs.Steps.{StepComesTo};
@@ -14,8 +14,8 @@ ghost use Rattle.jm_inspect.specs.World.{world_of};
 
 use crate::blanks::Blanks;
 use crate::complaint::Complaint;
+use crate::front::{file_length, file_part};
 use crate::stop::Stop;
-use crate::whole::whole_file;
 use jm_bytes::{Meter, Steps, Text};
 use jm_halves::{Gate, Workers};
 use jm_jrt::{ServeError, serve};
@@ -26,6 +26,21 @@ use std::alloc::Global;
 use std::marker::{Brand, Model};
 use std::sync::ledger::Ledger;
 use std::thread::Threads;
+
+/// All bytes of the file at a path, as one part after its length: a shelf of the system refuses so
+/// what is no file, as a pipe, before it waits for it.
+fn whole_file<S: Shelf>(alloc: Global, path: &Text, shelf: &mut S) -> Result<Text, Stop>
+    requires { IsUtf8 path.now }
+    ensures files { S.files shelf.new ≡ S.files shelf.old }
+    ensures reads { ReadsFile (S.files shelf.old) path.now result }
+    ensures takes { TakesFrom (S.files shelf.old) path.now (λ b. length b)
+        (S.handed shelf.old) (S.handed shelf.new) }
+    ensures faults { CountsFaults (S.faults shelf.old) (S.faults shelf.new) (IsOk result)
+        (IsErrOf result Stop.Outside) }
+{
+    let length = file_length(alloc, path, shelf)?;
+    file_part(alloc, path, 0, length as usize, shelf)
+}
 
 /// An image beside the bytes that it is: a meter of what is read of it is made of the bytes.
 #[derive(Drop)]

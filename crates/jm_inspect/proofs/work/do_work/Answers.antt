@@ -23,7 +23,7 @@ returns-in_err-front-in_default-clause-comes g c =
 pub returns-in_err-front-in_default-clause-takes : goal.returns-in_err-front-in_default-clause-takes
 returns-in_err-front-in_default-clause-takes g c =
     work_takes _ c.args.image.now c.args.work.now _ _ c.in_default.not-Serve
-    (takes_front _ c.args.image.now (work_length c.args.work.now) _ _ c.in_err-front-in_default.ensures.takes)
+    (takes_front first_damage _ c.args.image.now (work_length c.args.work.now) _ _ c.in_err-front-in_default.ensures.takes)
 
 pub returns-in_ok-front-in_default-clause-comes : goal.returns-in_ok-front-in_default-clause-comes
 returns-in_ok-front-in_default-clause-comes g c =
@@ -36,5 +36,5 @@ pub returns-in_ok-front-in_default-clause-takes : goal.returns-in_ok-front-in_de
 returns-in_ok-front-in_default-clause-takes g c =
     let read = c.in_ok-front-in_default.ensures in
     work_takes _ c.args.image.now c.args.work.now _ _ c.in_default.not-Serve
-    (takes_opened _ c.args.image.now c.in_ok-front-in_default.front.front (work_length c.args.work.now) _ _ _ read.opens read.taken
+    (takes_opened first_damage _ c.args.image.now c.in_ok-front-in_default.front.front (work_length c.args.work.now) _ _ _ read.opens read.taken
     c.do_opened.ensures.takes)

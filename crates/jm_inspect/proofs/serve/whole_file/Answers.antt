@@ -1,6 +1,6 @@
 use Rattle.std.proofs.Common.{arith, length}
 use Rattle.jm_inspect.proofs.FrontLaws.{takes_none, takes_there}
-use Rattle.jm_inspect.proofs.whole.whole_file.Goals as goal
+use Rattle.jm_inspect.proofs.serve.whole_file.Goals as goal
 
 pub returns-in_err-length-clause-takes : goal.returns-in_err-length-clause-takes
 returns-in_err-length-clause-takes g c =
