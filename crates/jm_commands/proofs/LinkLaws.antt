@@ -4,10 +4,11 @@ use Rattle.std.proofs.Common.{arith, All, IsUtf8}
 use Rattle.std.proofs.lemmas.List.Elements.{All-nil}
 use Rattle.jm_bytes.proofs.Choice.{same_err}
 use Rattle.jm_bytes.specs.declared.words.Order.{Order}
-use Rattle.jm_decompress.specs.Decompressed.{DecompressComes}
+use Rattle.jm_decompress.specs.Decompressed.{DecompressComes, stored_sizes}
+use Rattle.jm_decompress.specs.FiledDecompressed.{FiledDecompresses}
 use Rattle.jm_form.specs.declared.damage.Damage.{Damage}
 use Rattle.jm_filed.specs.Filed.{IsFiled}
-use Rattle.jm_form.specs.Damages.{first_damage}
+use Rattle.jm_form.specs.Damages.{first_damage, stored_damage}
 use Rattle.jm_form.specs.Head.{IsFileOf}
 use Rattle.jm_outside.specs.Files.{Files}
 use Rattle.jm_outside.specs.Shelves.{ShelfFailed, ShelfSeen}
@@ -33,20 +34,20 @@ use Rattle.jm_words.specs.Paths.{SourceIsText, directories_of}
 use Rattle.jm_inspect.specs.declared.complaint.Complaint.TheVariants as complaint
 use Rattle.jm_inspect.specs.declared.stop.Stop.{Stop}
 use Rattle.jm_inspect.specs.declared.stop.Stop.TheVariants as stop
-use Rattle.jm_inspect.specs.FileParts.{IsOpenFront}
+use Rattle.jm_inspect.specs.FileParts.{IsFileWithout, IsOpenFront, IsOpenFrontBy}
 use Rattle.jm_inspect.specs.Outcome.{Outcome, done, not_there, reading, refusing}
 use Rattle.jm_commands.specs.KeptOrder.{ordered_by}
 use Rattle.jm_commands.specs.LinkText.{decompress_text}
 use Rattle.jm_commands.specs.Outcome.{link_outcome, linked}
-use Rattle.jm_inspect.specs.Works.{HasFile, ImageComes}
+use Rattle.jm_inspect.specs.Works.{HasFile, ImageComes, StoredComes}
 use Rattle.jm_commands.specs.Run.{DecompressComesTo, ImageLinkComesTo, LinkComesFrom, LinkComesTo, PathLinkComesTo, ShowsLinked}
 use Rattle.jm_inspect.specs.Steps.{IsFailure, PutDoes, StepComesTo}
 use Rattle.jm_inspect.specs.Sinks.{Seen}
 use Rattle.jm_commands.specs.Stops.{stop_of_link}
-use Rattle.jm_commands.specs.Taken.{LinkTakes, TakesLinkedOf}
+use Rattle.jm_commands.specs.Taken.{LinkTakes, TakesLinkedOf, decompress_size}
 use Rattle.jm_inspect.specs.Taken.{TakesFrom, TakesOfFront, front_size}
 use Rattle.jm_inspect.specs.World.{World, world}
-use Rattle.jm_inspect.proofs.FrontLaws.{filed_there, opened, takes_so}
+use Rattle.jm_inspect.proofs.FrontLaws.{filed_there, opened, opened_file, takes_behind, takes_so}
 use Rattle.jm_inspect.proofs.StepLaws.{comes_behind, complains, fails_at_once, made_in_part, made_put}
 use Rattle.jm_commands.proofs.KeptOrderLaws.{takes_as_asked}
 
@@ -201,6 +202,51 @@ module _ (decompress : DecompressTask) (b : List ℕ) (old new : World) (input :
   decompress_stopped given links =
       stopped_linked decompress_text decompress.output (DecompressComes b) ⊥ (DecompressComesTo decompress b) old new input
       decompress_due given links (λ listed is never. absurd never)
+
+-- Of the image in a file, which is open as it is stored
+
+module _ (decompress : DecompressTask) (shelf mid new : ShelfSeen) (same : mid.told ≡ shelf.told) (front : Front)
+    (opens : IsOpenFrontBy stored_damage shelf.told decompress.image front) (handed new_handed : ℕ) where
+  abbrev DidStored : Result Summary LinkStop → Type 0
+  DidStored answer = FiledDecompresses front decompress.image decompress.output answer mid new handed new_handed
+
+  -- the file whose resources were had is that of the path, without a damage
+  stored_there : (answer : Result Summary LinkStop) (did : DidStored answer)
+      → IsFileWithout stored_damage shelf.told decompress.image did.bytes
+  stored_there answer did =
+      (subst (λ (told : Option Files). HasFile told decompress.image (Some did.bytes)) same did.filed.1, opens.1 did.bytes did.filed.0)
+
+  -- what was taken: the front, and the stored contents
+  pub takes_stored : (answer : Result Summary LinkStop) (old : ℕ) → DidStored answer → TakesOfFront front front_size old handed
+      → TakesFrom shelf.told decompress.image decompress_size old new_handed
+  takes_stored answer old did taken =
+      takes_behind stored_damage shelf.told decompress.image did.bytes stored_sizes old handed new_handed (stored_there answer did)
+      (taken did.bytes did.filed.0) did.takes
+
+  module _ (kept : mid.faults ≡ shelf.faults) (source out new_out : Seen (List ℕ)) where
+    abbrev EndsStored : Result (Unit {0}) Stop → Type 0
+    EndsStored answer =
+        StepComesTo (StoredComes shelf.told decompress.image (DecompressComesTo decompress)) reading answer (world shelf source out)
+        (world new source new_out)
+
+    -- after the opening, what is done with the file
+    ends_stored : (b : List ℕ) (answer : Result (Unit {0}) Stop) → IsFileWithout stored_damage shelf.told decompress.image b
+        → StepComesTo (DecompressComesTo decompress b) reading answer (world mid source out) (world new source new_out)
+        → EndsStored answer
+    ends_stored b answer is step =
+        opened_file stored_damage (DecompressComesTo decompress) decompress.image shelf mid same source out kept b answer
+        (world new source new_out) is step
+
+    pub stored_put : (summary : Summary) (answer : Result (Unit {0}) Stop) → DidStored (Ok summary)
+        → PutDoes (done (decompress_text summary)) answer out new_out → EndsStored answer
+    stored_put summary answer did puts =
+        ends_stored did.bytes answer (stored_there (Ok summary) did)
+        (decompress_put decompress did.bytes (world mid source out) (world new source new_out) refl summary answer did.does puts)
+
+    pub stored_stopped : (given : LinkStop) → DidStored (Err given) → new_out.told ≡ out.told → EndsStored (Err (stop_of_link given))
+    stored_stopped given did unput =
+        ends_stored did.bytes (Err (stop_of_link given)) (stored_there (Err given) did)
+        (decompress_stopped decompress did.bytes (world mid source out) (world new source new_out) refl given did.does unput)
 
 -- From the image in the file of a path, whose order is that of what is asked
 

@@ -14,7 +14,7 @@ use Rattle.jm_words.specs.declared.tasks.Task.{Task}
 use Rattle.jm_words.specs.declared.tasks.Task.TheVariants as task
 use Rattle.jm_words.specs.Paths.{directories_of}
 use Rattle.jm_commands.specs.Gen.{gen_link, made_first, modules_path}
-use Rattle.jm_commands.specs.Taken.{GenTakes, LinkTakes, TakesNoMore, TaskTakes}
+use Rattle.jm_commands.specs.Taken.{GenTakes, LinkTakes, TakesNoMore, TaskTakes, decompress_size}
 use Rattle.jm_inspect.specs.Taken.{front_size}
 use Rattle.jm_inspect.proofs.FrontLaws.{takes_nothing, work_takes_nothing}
 use Rattle.jm_commands.proofs.LinkLaws.{takes_link_front}
@@ -54,7 +54,7 @@ link_takes_nothing told asked (source.Image path) n = takes_link_front told path
 task_takes_nothing : (told : Option Files) (given : Task) (n : ℕ) → TaskTakes told given n n
 task_takes_nothing told (task.Image image does) n = work_takes_nothing told image does n
 task_takes_nothing told (task.Link link) n = link_takes_nothing told (request_of link) link.source n
-task_takes_nothing told (task.Decompress decompress) n = takes_nothing told decompress.image (λ b. length b) n
+task_takes_nothing told (task.Decompress decompress) n = takes_nothing told decompress.image decompress_size n
 task_takes_nothing told (task.Gen gen) n = gen_takes_nothing told gen n
 task_takes_nothing told (task.Describe file release) n = takes_nothing told file (λ b. length b) n
 task_takes_nothing told task.Help n = refl

@@ -2,7 +2,8 @@
 use Rattle.std.specs.Prelude.{ℕ, ◌+◌, ◌≡◌, ◌≤◌, List, length, Option, Some, None}
 use Rattle.std.specs.Prelude.{option_map, Result, Ok, Err}
 use Rattle.jm_form.specs.declared.damage.Damage.{Damage}
-use Rattle.jm_form.specs.Damages.{first_damage}
+use Rattle.jm_decompress.specs.Decompressed.{stored_sizes}
+use Rattle.jm_form.specs.Damages.{first_damage, stored_damage}
 use Rattle.jm_link.specs.ImageTaken.{TakesLinked}
 use Rattle.jm_link.specs.Linked.{Request}
 use Rattle.jm_link.specs.Links.{request_of}
@@ -17,7 +18,7 @@ use Rattle.jm_words.specs.declared.tasks.Source.TheVariants as source
 use Rattle.jm_words.specs.declared.tasks.Task.{Task}
 use Rattle.jm_words.specs.declared.tasks.Task.TheVariants as task
 use Rattle.jm_commands.specs.Gen.{gen_link, made_first}
-use Rattle.jm_inspect.specs.Taken.{TakesBy, TakesFrom, WorkTakes, front_size}
+use Rattle.jm_inspect.specs.Taken.{TakesBy, TakesFrom, WorkTakes, front_size, opened_size_by}
 
 -- what a link takes of an image, by its first damage: the front, and without a damage what is said
 -- of the link of its modules besides
@@ -32,6 +33,11 @@ LinkTakes told asked (source.Path directories) old new = PathTakes told director
 LinkTakes told asked (source.Image path) old new =
     TakesBy told path (λ b. TakesLinkedOf (first_damage b) asked b) old new
 
+-- how many bytes a `decompress` takes of its image: the front, and of one without a damage, read as
+-- stored, the bytes of its resources as they are stored besides
+abbrev pub decompress_size : List ℕ → ℕ
+decompress_size b = opened_size_by stored_damage stored_sizes b
+
 -- what a `gen` takes: nothing while it makes its files, and then what its link does, of the files
 -- with these
 abbrev pub GenTakes : Option Files → GenTask → (old new : ℕ) → Type 0
@@ -39,14 +45,14 @@ GenTakes told gen old new =
     LinkTakes (option_map (λ files. written files (made_first gen)) told)
     (request_of (gen_link gen)) (gen_link gen).source old new
 
--- what a task takes: such a work, link or `gen` as said, `decompress` and `describe` the file at
--- their path once, `--help` and `--version` nothing
+-- what a task takes: such a work, link, `decompress` or `gen` as said, `describe` the file at its
+-- path once, `--help` and `--version` nothing
 abbrev pub TaskTakes : Option Files → Task → (old new : ℕ) → Type 0
 TaskTakes told (task.Image image work) old new = WorkTakes told image work old new
 TaskTakes told (task.Link link) old new =
     LinkTakes told (request_of link) link.source old new
 TaskTakes told (task.Decompress decompress) old new =
-    TakesFrom told decompress.image (λ b. length b) old new
+    TakesFrom told decompress.image decompress_size old new
 TaskTakes told (task.Gen gen) old new = GenTakes told gen old new
 TaskTakes told (task.Describe file release) old new = TakesFrom told file (λ b. length b) old new
 TaskTakes told task.Help old new = new ≡ old
