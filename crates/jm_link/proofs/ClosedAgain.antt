@@ -23,7 +23,7 @@ use Rattle.jm_bytes.proofs.Choice.{mapped_some}
 use Rattle.jm_link.specs.Chosen.{Chosen}
 use Rattle.jm_link.proofs.ChosenLaws.{chosen_below, places_by_name}
 use Rattle.jm_link.proofs.FileLaws.{got}
-use Rattle.jm_link.proofs.SeenAgain.{Before}
+use Rattle.jm_relink.proofs.AskedLaws.{Before}
 use Rattle.jm_bytes.proofs.Members.{element_at}
 use Rattle.std.proofs.lemmas.Option.{slice_get_within}
 

@@ -1,35 +1,25 @@
--- The files that a link takes: none has the name of a node, and a shelf that tells its files has
--- each of them.
+-- The names of the files of modules: none is a node's where no module has a reserved name.
 use Rattle.std.proofs.Common.{◌≡◌, ◌≢◌, ◌⊎◌, ◌&&◌, inl, inr, ℕ, zero, suc, Bool, true, false, List, [], ◌∷◌}
-use Rattle.std.proofs.Common.{◌++◌, length, drop, find, All, Contains, Some, None, option_map, slice_get}
+use Rattle.std.proofs.Common.{◌++◌, length, drop, find, Contains, Some, None, option_map, slice_get}
 use Rattle.std.proofs.Common.{refl, sym, ap, ◌∙◌, subst}
 use Rattle.std.proofs.lemmas.Bool.{eqb-true, false≢true, false_from_ne_true, or_cases}
 use Rattle.std.proofs.lemmas.Bool.Decides.{Decides-eqb}
-use Rattle.std.proofs.lemmas.List.Elements.{All-contains}
 use Rattle.jm_bytes.proofs.Choice.{same_some}
 use Rattle.std.proofs.lemmas.Slice.Eq.{bytes_eq-Decides, starts_is}
-use Rattle.std.specs.List.{filter_map, list_all, list_any, starts_with}
+use Rattle.std.specs.List.{list_all, list_any, starts_with}
 use Rattle.std.specs.Prelude.{codes, nat_eq}
 use Rattle.std.specs.Str.{bytes_eq}
-use Rattle.jm_bytes.proofs.Members.{all_from_contains, any_contains, contains_here, contains_later, contains_map, from_filter_map, from_map}
-use Rattle.jm_bytes.proofs.SameOrder.{from_flat_map}
+use Rattle.jm_bytes.proofs.Members.{any_contains, contains_here, contains_later}
 use Rattle.jm_closure.specs.declared.candidate.Candidate.{Candidate}
 use Rattle.jm_closure.specs.Modules as closure
 use Rattle.jm_form.specs.Trees.{module_of}
 use Rattle.jm_modinfo.specs.Constants.{is_legal, is_legal_byte}
 use Rattle.jm_names.specs.Names.{is_node, is_slash}
-use Rattle.jm_names.specs.UtfForms.{modified}
 use Rattle.jm_nodes.proofs.SoundLaws.{module_again}
 use Rattle.jm_texts.specs.declared.refusal.Refusal.{Refusal}
 use Rattle.jm_texts.specs.declared.refusal.Refusal.TheVariants as refusal
-use Rattle.jm_modpath.specs.declared.visible.VisibleModule.{VisibleModule}
-use Rattle.jm_names.specs.ByName.{Named}
-use Rattle.jm_modpath.specs.Finding.{HasTexts}
-use Rattle.jm_modpath.specs.Modules.{candidates, inside, name_of, resource_name}
 use Rattle.jm_relink.specs.Files.{file_name}
-use Rattle.jm_link.specs.Chosen.{is_called, reserved}
-use Rattle.jm_link.specs.Resources.{link_files, module_files}
-use Rattle.jm_names.proofs.NameOrder.{from_by_name}
+use Rattle.jm_modset.specs.Found.{is_called, reserved}
 
 -- Names of nodes
 
@@ -109,40 +99,8 @@ other_name found name c free there same =
     false≢true (sym free ∙ any_contains (λ d. bytes_eq name (closure.name_of d)) found c there
     ((bytes_eq-Decides name (closure.name_of c)).1 (sym same)))
 
--- Where a file comes from
-
-pub record IsFileOf (found : List VisibleModule) (f : Named) : Type 0 where
-  pub «module» : VisibleModule
-  pub path : List ℕ
-  pub there : Contains found «module»
-  pub listed : Contains «module».files path
-  pub is : f ≡ (resource_name (name_of «module») path, inside «module».folder path)
-
+-- What stands at a place of a list is contained in it
 pub got : {X : Type 0} (xs : List X) (i : ℕ) (x : X) → slice_get xs i ≡ Some x → Contains xs x
 got [] i x is = cc
 got (y ∷ xs) zero x is = subst (Contains (y ∷ xs)) (same_some y x is) (contains_here y xs)
 got (y ∷ xs) (suc i) x is = contains_later y xs x (got xs i x is)
-
-pub file_from : (found : List VisibleModule) (places : List ℕ) (f : Named) → Contains (link_files found places) f → IsFileOf found f
-file_from found places f there =
-    let one = from_flat_map module_files (filter_map (slice_get found) places) f there in
-    let m = one.0 in
-    let at = from_filter_map (slice_get found) places m one.1 in
-    let pair = from_map (λ path. (resource_name (name_of m) path, inside m.folder path)) m.files f (from_by_name _ f one.2) in
-    record { «module» = m; path = pair.0; there = got found at.0 m at.2; listed = pair.1; is = sym pair.2 }
-
--- none has the name of a node
-pub files_free : (found : List VisibleModule) (places : List ℕ) → All HasTexts found → reserved (candidates found) ≡ None
-    → All (λ f. is_node f.0 ≡ false) (link_files found places)
-files_free found places texts free = all_from_contains (λ f. is_node f.0 ≡ false) (link_files found places) go
-  where
-    go : (f : Named) → Contains (link_files found places) f → is_node f.0 ≡ false
-    go f there =
-        let from = file_from found places f there in
-        let names = free_names (candidates found) free in
-        let whole = legal_plain (name_of from.«module») (All-contains HasTexts found from.«module» texts from.there).legal in
-        let among = contains_map (λ (k : VisibleModule). k.candidate) found from.«module» from.there in
-        ap (λ g. is_node g.0) from.is
-        ∙ no_node (name_of from.«module») (modified from.path) whole
-        (other_name (candidates found) (codes "modules") from.«module».candidate names.0 among)
-        (other_name (candidates found) (codes "packages") from.«module».candidate names.1 among)
