@@ -89,7 +89,8 @@ pub fn ordered_by<R: Ledger>(
     let mut reads = Meter::<R>::new(image.bytes(), reads);
     let names = names_in_file_order(alloc, image.as_index(), &mut reads)?;
     Ok(LinkTask {
-        source: task.source,
+        directories: task.directories,
+        image: task.image,
         roots: task.roots,
         output: task.output,
         plugins: all_with_order(alloc, task.plugins, names.as_slice())?,
