@@ -37,7 +37,8 @@ use Rattle.jm_relink.specs.Files.{file_name, files_in}
 use Rattle.jm_relink.specs.Gathering.{resource_of}
 use Rattle.jm_relink.proofs.ListLaws.{pairs_unmap}
 use Rattle.jm_relink.proofs.NameLaws.{names_tell}
-use Rattle.jm_link.proofs.FileLaws.{got, legal_plain}
+use Rattle.jm_modset.proofs.ItemLaws.{got}
+use Rattle.jm_modset.proofs.NameLaws.{legal_plain}
 use Rattle.jm_link.proofs.SetFiles.{zip_at}
 use Rattle.jm_link.proofs.TakenLaws.{sum_among}
 

@@ -1,7 +1,6 @@
 pub mod AwaitedLaws
 pub mod ChosenLaws
 pub mod ClosedAgain
-pub mod FileLaws
 pub mod FileOrder
 pub mod FiledLinkLaws
 pub mod GivenBack

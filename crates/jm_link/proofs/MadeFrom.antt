@@ -29,7 +29,8 @@ use Rattle.jm_link.specs.Links.{IsLaid}
 use Rattle.jm_link.specs.Relinked.{AreOnShelf, leaves_order}
 use Rattle.jm_link.proofs.ChosenLaws.{chosen_below}
 use Rattle.jm_link.proofs.ClosedAgain.{taken}
-use Rattle.jm_link.proofs.FileLaws.{free_names, got, no_node, other_name}
+use Rattle.jm_modset.proofs.ItemLaws.{got}
+use Rattle.jm_modset.proofs.NameLaws.{free_names, no_node, other_name}
 use Rattle.jm_link.proofs.FileOrder.{IsFirstOrOne}
 use Rattle.jm_link.proofs.KeptLaws.{AreKept, applied}
 use Rattle.jm_link.proofs.LaidLaws.{laid_free}

@@ -41,7 +41,8 @@ use Rattle.jm_link.specs.Linked.{laid_out, layout_refusal}
 use Rattle.jm_link.specs.Links.{IsLaid}
 use Rattle.jm_link.specs.Relinked.{IsLinkedFrom, Relinks, Takes}
 use Rattle.jm_link.proofs.ClosedAgain.{chosen_further, closes_again, found_again, place_again, root_chosen}
-use Rattle.jm_link.proofs.FileLaws.{free_names, got}
+use Rattle.jm_modset.proofs.ItemLaws.{got}
+use Rattle.jm_modset.proofs.NameLaws.{free_names}
 use Rattle.jm_link.proofs.FileOrder.{IsFirstOrOne}
 use Rattle.jm_link.proofs.KeptLaws.{AreKept}
 use Rattle.jm_link.proofs.MadeFrom.{IsMade, IsMadeFrom, left_kept, left_of, linked_laid, made_from, modules_taken, taken_within}

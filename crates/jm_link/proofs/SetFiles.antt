@@ -49,7 +49,7 @@ use Rattle.jm_relink.proofs.NameLaws.{parts_of_file}
 use Rattle.jm_link.specs.ImageSteps.{HasModules}
 use Rattle.jm_link.specs.Links.{path_files}
 use Rattle.jm_link.specs.ModuleSteps.{ComeFrom, HasImage, bytes_of}
-use Rattle.jm_link.proofs.FileLaws.{got}
+use Rattle.jm_modset.proofs.ItemLaws.{got}
 
 -- Two lists side by side
 

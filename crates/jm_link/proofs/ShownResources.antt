@@ -60,7 +60,8 @@ use Rattle.jm_relink.proofs.ModuleLaws.{one_content, resources_differ}
 use Rattle.jm_texts.specs.declared.refusal.Refusal.{Refusal}
 use Rattle.jm_link.specs.Relinked.{AreOnShelf, IsImageOnShelf}
 use Rattle.jm_link.proofs.ClosedAgain.{taken, taken_rise}
-use Rattle.jm_link.proofs.FileLaws.{got, legal_plain}
+use Rattle.jm_modset.proofs.ItemLaws.{got}
+use Rattle.jm_modset.proofs.NameLaws.{legal_plain}
 use Rattle.jm_link.proofs.FileOrder.{AreNamed, IsFirst, IsFirstOrOne, by_name_sorted, entries_rise, named_first, pairs_shown}
 use Rattle.jm_link.proofs.SaidLaws.{Says, said_legal, says_from}
 use Rattle.jm_link.proofs.SeenAgain.{AreOf, IsOf}

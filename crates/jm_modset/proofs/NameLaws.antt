@@ -84,7 +84,7 @@ not_some : (r : Refusal) → Some r ≡ None → ⊥
 not_some r is = cc
 
 -- no module has a reserved name
-free_names : (found : List Candidate) → reserved found ≡ None → (is_called found (codes "modules") ≡ false)
+pub free_names : (found : List Candidate) → reserved found ≡ None → (is_called found (codes "modules") ≡ false)
     × (is_called found (codes "packages") ≡ false)
 free_names found free = go (is_called found (codes "modules")) refl (is_called found (codes "packages")) refl free
   where
@@ -103,7 +103,7 @@ free_names found free = go (is_called found (codes "modules")) refl (is_called f
         not_none is also none = not_some _ (rw (is, also) at none)
     go false is false also none = (is, also)
 
-other_name : (found : List Candidate) (name : List ℕ) (c : Candidate) → is_called found name ≡ false → Contains found c
+pub other_name : (found : List Candidate) (name : List ℕ) (c : Candidate) → is_called found name ≡ false → Contains found c
     → name_of c ≢ name
 other_name found name c free there same =
     false≢true (sym free ∙ any_contains (λ d. bytes_eq name (name_of d)) found c there
