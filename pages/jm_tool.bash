@@ -33,7 +33,7 @@ _jm_tool() {
     esac
   done
   case ${COMP_WORDS[1]} in
-    link) options='--module-path --add-modules --output --endian --bind-services --release --exclude-resources --order-resources --keep-order --strip-java-debug-attributes --compact-pool --module-packages --drop-system-modules --from-image --jobs' place=() ;;
+    link) options='--module-path --add-modules --output --from-image --endian --bind-services --release --exclude-resources --order-resources --keep-order --strip-java-debug-attributes --compact-pool --module-packages --drop-system-modules --jobs' place=() ;;
     cat) options='--jobs' place=(file -) ;;
     list) options='--include --sha256 --jobs' place=(file) ;;
     ls) options='--jobs' place=(file -) ;;

@@ -13,9 +13,10 @@ complete -c jm_tool -n __fish_use_subcommand -a 'gen' -d 'makes modules below DI
 complete -c jm_tool -n __fish_use_subcommand -a 'describe' -d 'prints what a module-info.class says'
 complete -c jm_tool -n __fish_use_subcommand -a '--help' -d 'prints this text'
 complete -c jm_tool -n __fish_use_subcommand -a '--version' -d 'prints the version of the program'
-complete -c jm_tool -n '__fish_seen_subcommand_from link' -l module-path -x -a '(__fish_complete_directories)'
-complete -c jm_tool -n '__fish_seen_subcommand_from link' -l add-modules -x -d 'the modules to link; ALL-MODULE-PATH among them stands for all modules'
+complete -c jm_tool -n '__fish_seen_subcommand_from link' -l module-path -x -a '(__fish_complete_directories)' -d 'the directories to find modules in, with colons between them'
+complete -c jm_tool -n '__fish_seen_subcommand_from link' -l add-modules -x -d 'the modules to link; ALL-MODULE-PATH is all of DIRS, or else of the image'
 complete -c jm_tool -n '__fish_seen_subcommand_from link' -l output -r -F
+complete -c jm_tool -n '__fish_seen_subcommand_from link' -l from-image -r -F -d 'the image to find modules in, before the directories of --module-path'
 complete -c jm_tool -n '__fish_seen_subcommand_from link' -l endian -x -a 'little big' -d 'the byte order of the image: little, or big'
 complete -c jm_tool -n '__fish_seen_subcommand_from link' -l bind-services -d 'also links the modules that provide services which linked modules use'
 complete -c jm_tool -n '__fish_seen_subcommand_from link' -l release -x -d 'accepts class files up to Java N, from 21 to 25; 21 without it'
@@ -26,7 +27,6 @@ complete -c jm_tool -n '__fish_seen_subcommand_from link' -l strip-java-debug-at
 complete -c jm_tool -n '__fish_seen_subcommand_from link' -l compact-pool -d 'removes unreferenced constants'
 complete -c jm_tool -n '__fish_seen_subcommand_from link' -l module-packages -d 'lists the packages of each module in its descriptor'
 complete -c jm_tool -n '__fish_seen_subcommand_from link' -l drop-system-modules -d 'removes the classes of java.base that name all modules of another image'
-complete -c jm_tool -n '__fish_seen_subcommand_from link' -l from-image -r -F
 complete -c jm_tool -n '__fish_seen_subcommand_from link' -l jobs -x -d 'uses up to N threads, from 1 to 64; the output is the same'
 complete -c jm_tool -n '__fish_seen_subcommand_from cat' -F
 complete -c jm_tool -n '__fish_seen_subcommand_from cat' -l jobs -x -d 'uses up to N threads, from 1 to 64; the output is the same'

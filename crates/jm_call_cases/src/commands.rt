@@ -3,7 +3,7 @@
 use jm_bytes::{List, Or, Order, Text};
 use jm_lines::{put_bytes, words_of};
 use jm_pattern::Pattern;
-use jm_words::{Command, GenTask, ImageWork, LinkTask, Plugin, Source, Task, read_words};
+use jm_words::{Command, GenTask, ImageWork, LinkTask, Plugin, Task, read_words};
 use std::alloc::{AllocError, Global};
 
 /// Puts a text between bars.
@@ -74,21 +74,22 @@ fn put_file(
     }
 }
 
-/// Puts where a `link` reads: the directories, or the image.
-fn put_source(line: &mut String, source: &Source) -> Result<(), AllocError> {
-    match source {
-        Source::Path(directories) => put_texts(line, directories),
-        Source::Image(image) => {
+/// Puts where a `link` reads: the directories, and the image.
+fn put_sources(line: &mut String, task: &LinkTask) -> Result<(), AllocError> {
+    put_texts(line, &task.directories)?;
+    match &task.image {
+        Some(image) => {
             line.push_str(" from")?;
             put_text(line, image)
         }
+        None => Ok(()),
     }
 }
 
 /// Puts what a `link` reads, takes and makes.
 fn put_link(line: &mut String, task: &LinkTask) -> Result<(), AllocError> {
     line.push_str("link")?;
-    put_source(line, &task.source)?;
+    put_sources(line, task)?;
     line.push_str(" add")?;
     put_texts(line, &task.roots)?;
     line.push_str(" to")?;

@@ -1,5 +1,5 @@
 -- What `gen` does, from what its calls answered.
-use Rattle.std.proofs.Common.{◌≡◌, ◌⊎◌, inl, inr, IsTrue, ℕ, List, [], ◌++◌, ◌∷◌, Option, Result, Ok, Err, refl, subst, append-nil}
+use Rattle.std.proofs.Common.{◌≡◌, ◌⊎◌, inl, inr, IsTrue, ℕ, List, [], ◌++◌, ◌∷◌, Option, None, Result, Ok, Err, refl, subst, append-nil}
 use Rattle.jm_outside.specs.Files.{Files}
 use Rattle.jm_outside.specs.Shelves.{ShelfSeen}
 use Rattle.jm_outside.specs.Made.{MadeAll, MadePart, Writes}
@@ -7,7 +7,8 @@ use Rattle.jm_outside.proofs.MadeLaws.{made_append, part_append}
 use Rattle.jm_link.specs.declared.linking.LinkStop.{LinkStop}
 use Rattle.jm_link.specs.declared.linking.LinkStop.TheVariants as link_stop
 use Rattle.jm_link.specs.declared.linking.Summary.{Summary}
-use Rattle.jm_link.specs.Links.{Links, request_of}
+use Rattle.jm_link.specs.FiledLinked.{FiledLinks}
+use Rattle.jm_link.specs.Links.{request_of}
 use Rattle.jm_link.specs.Steps.{AfterStep, LacksBy}
 use Rattle.jm_modpath.specs.Listed.{IsBelow}
 use Rattle.jm_words.specs.declared.tasks.GenTask.{GenTask}
@@ -21,7 +22,7 @@ use Rattle.jm_inspect.specs.Steps.{Answers, FilesFirst, FilesMade, PutDoes, Stan
 use Rattle.jm_commands.specs.Run.{GenComesTo, LinkComesTo}
 use Rattle.jm_commands.specs.Stops.{stop_of_link}
 use Rattle.jm_inspect.specs.World.{World}
-use Rattle.jm_commands.proofs.LinkLaws.{link_put, link_stopped}
+use Rattle.jm_commands.proofs.LinkLaws.{alone_put, alone_stopped}
 use Rattle.jm_inspect.proofs.StepLaws.{files_sooner, none_sooner, source_behind, work_sooner}
 
 -- the answer is that of what is due with files made before
@@ -122,19 +123,26 @@ stopped_files (link_stop.NotThere listed) now new whole unput = inr (whole, unpu
 stopped_files link_stop.Outside now new whole unput = inr (tt, unput)
 stopped_files link_stop.Memory now new whole unput = inr (tt, unput)
 
--- the link of a `gen`, by the folder that its modules were made in
-pub links_as : (gen : GenTask) (mods : List ℕ) (answer : Result Summary LinkStop) (old new : ShelfSeen) → mods ≡ modules_path gen
-    → Links (mods ∷ []) (request_of (gen_link gen)) (image_path gen) answer old new
-    → Links (modules_path gen ∷ []) (request_of (gen_link gen)) (image_path gen) answer old new
-links_as gen mods answer old new one links =
-    subst (λ (path : List ℕ). Links (path ∷ []) (request_of (gen_link gen)) (image_path gen) answer old new) one links
+-- the link of a `gen`, by what it answered
+abbrev pub GenLinks : GenTask → Result Summary LinkStop → (old new : ShelfSeen) → (handed last : ℕ) → Type 0
+GenLinks gen answer old new handed last =
+    FiledLinks None (modules_path gen ∷ []) (request_of (gen_link gen)) (image_path gen) answer old new handed last
+
+-- by the folder that its modules were made in
+pub links_as : (gen : GenTask) (mods : List ℕ) (answer : Result Summary LinkStop) (old new : ShelfSeen) (handed last : ℕ)
+    → mods ≡ modules_path gen
+    → FiledLinks None (mods ∷ []) (request_of (gen_link gen)) (image_path gen) answer old new handed last
+    → GenLinks gen answer old new handed last
+links_as gen mods answer old new handed last one links =
+    subst (λ (path : List ℕ). FiledLinks None (path ∷ []) (request_of (gen_link gen)) (image_path gen) answer old new handed last) one
+    links
 
 -- what it lacks, by this folder
 pub lacks_as : (gen : GenTask) (mods : List ℕ) (given : LinkStop) → mods ≡ modules_path gen → LacksBy (IsBelow (mods ∷ [])) given
     → LacksBy (IsBelow (modules_path gen ∷ [])) given
 lacks_as gen mods given one = subst (λ (path : List ℕ). LacksBy (IsBelow (path ∷ [])) given) one
 
-module _ (gen : GenTask) (shelf : ShelfSeen) (now new : World) where
+module _ (gen : GenTask) (shelf : ShelfSeen) (now new : World) (handed last : ℕ) where
   abbrev before : World
   before = record { shelf = shelf; input = now.input; out = now.out }
 
@@ -152,17 +160,15 @@ module _ (gen : GenTask) (shelf : ShelfSeen) (now new : World) where
 
   -- all was made and linked, and then the text was put
   pub gen_put : (summary : Summary) (answer : Result (Unit {0}) Stop) → MadeAll (made_first gen) shelf.told now.shelf.told
-      → now.shelf.faults ≡ shelf.faults → new.input ≡ now.input → Links (modules_path gen ∷ []) (request_of (gen_link gen))
-      (image_path gen) (Ok summary) now.shelf new.shelf → PutDoes (done (gen_text summary)) answer now.out new.out → Does answer
+      → now.shelf.faults ≡ shelf.faults → new.input ≡ now.input → GenLinks gen (Ok summary) now.shelf new.shelf handed last → PutDoes (done (gen_text summary)) answer now.out new.out → Does answer
   gen_put summary answer made kept input links put =
-      linked_after answer made kept (inl (links.3.whole, links.3.durable)) (link_put gen_text (gen_link gen) (modules_path gen ∷ []) now
-      new input summary answer links put)
+      linked_after answer made kept (inl (links.links.3.whole, links.links.3.durable)) (alone_put gen_text (gen_link gen) now
+      new input refl handed last summary answer links put)
 
   -- all was made, and the link stopped
   pub gen_stopped : (given : LinkStop) → MadeAll (made_first gen) shelf.told now.shelf.told → now.shelf.faults ≡ shelf.faults
-      → new.input ≡ now.input → Links (modules_path gen ∷ []) (request_of (gen_link gen)) (image_path gen) (Err given) now.shelf
-      new.shelf → LacksBy (IsBelow (modules_path gen ∷ [])) given → AfterStep {A = Summary} (IsTrue new.shelf.whole) (Err given)
+      → new.input ≡ now.input → GenLinks gen (Err given) now.shelf new.shelf handed last → LacksBy (IsBelow (modules_path gen ∷ [])) given → AfterStep {A = Summary} (IsTrue new.shelf.whole) (Err given)
       → new.out.told ≡ now.out.told → Does (Err (stop_of_link given))
   gen_stopped given made kept input links lacks whole unput =
-      linked_after (Err (stop_of_link given)) made kept (stopped_files given now new whole unput) (link_stopped gen_text (gen_link gen)
-      (modules_path gen ∷ []) now new input given links lacks unput)
+      linked_after (Err (stop_of_link given)) made kept (stopped_files given now new whole unput) (alone_stopped gen_text (gen_link gen)
+      now new input refl handed last given links lacks unput)

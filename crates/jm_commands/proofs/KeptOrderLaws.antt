@@ -1,10 +1,13 @@
 -- What is asked of a link of an image's modules, with the order of the image.
-use Rattle.std.proofs.Common.{◌≡◌, inl, inr, ℕ, false, ◌||◌, List, [], ◌∷◌, map, refl, ap, sym, ◌∙◌}
+use Rattle.std.proofs.Common.{◌≡◌, inl, inr, ℕ, false, ◌||◌, List, [], ◌∷◌, map, Option, Some, None, refl, ap, sym, ◌∙◌}
 use Rattle.std.proofs.lemmas.Bool.{true≢false}
 use Rattle.std.specs.List.{list_any}
 use Rattle.jm_filed.specs.FileOrder.{file_order}
-use Rattle.jm_link.specs.ImageTaken.{TakesLinked}
-use Rattle.jm_link.specs.Links.{request_of}
+use Rattle.jm_link.specs.Links.{path_files, request_of}
+use Rattle.jm_link.specs.Taken.{LinkTakes, TakesOf}
+use Rattle.jm_modset.specs.Found.{Sources}
+use Rattle.jm_outside.specs.Files.{Files}
+use Rattle.jm_outside.specs.Outcome.{Shows}
 use Rattle.jm_words.specs.declared.tasks.LinkTask.{LinkTask}
 use Rattle.jm_words.specs.declared.tasks.Plugin.{Plugin}
 use Rattle.jm_words.specs.declared.tasks.Plugin.TheVariants as plugin
@@ -33,7 +36,8 @@ none_keeps names (one ∷ later) none = go one none (none_keeps names later)
 -- a link with these plug-ins
 abbrev with_plugins : LinkTask → List Plugin → LinkTask
 with_plugins link plugins = record {
-  source = link.source;
+  directories = link.directories;
+  image = link.image;
   roots = link.roots;
   output = link.output;
   plugins = plugins;
@@ -52,11 +56,24 @@ plain_request b link none =
     ap (λ (plugins : List Plugin). request_of (with_plugins link plugins)) (ap (map (with_order (file_order b))) none ∙ sym none)
 
 -- what a link takes doesn't depend on its plug-ins
-pub takes_as_asked : (b : List ℕ) (link : LinkTask) (old new : ℕ) → TakesLinked b (request_of (ordered_by b link)) old new
-    → TakesLinked b (request_of link) old new
-takes_as_asked b link old new (inl infos) = inl infos
-takes_as_asked b link old new (inr (resources, chosen, all)) = inr (
-  resources,
-  record { seen = chosen.seen; shows = chosen.shows; places = chosen.places; closes = chosen.closes; are = chosen.are },
+takes_of : (b : List ℕ) (link : LinkTask) (source : Sources) (old new : ℕ) → TakesOf source (request_of (ordered_by b link)) old new
+    → TakesOf source (request_of link) old new
+takes_of b link source old new (inl infos) = inl infos
+takes_of b link source old new (inr (contents, are, all)) = inr (
+  contents,
+  record { found = are.found; finds = are.finds; places = are.places; closes = are.closes; fit = are.fit; are = are.are },
   all,
 )
+
+pub takes_as_asked : (told : Option Files) (b : List ℕ) (link : LinkTask) (old new : ℕ)
+    → LinkTakes told (Some b) link.directories (request_of (ordered_by b link)) old new
+    → LinkTakes told (Some b) link.directories (request_of link) old new
+takes_as_asked told b link old new = go (path_files link.directories told)
+  where
+    source : Files → Sources
+    source files = record { image = Some b; files = files; directories = link.directories }
+
+    go : (shown : Option Files) → Shows shown (λ files. TakesOf (source files) (request_of (ordered_by b link)) old new)
+        → Shows shown (λ files. TakesOf (source files) (request_of link) old new)
+    go None takes = tt
+    go (Some files) takes = takes_of b link (source files) old new takes

@@ -1,11 +1,11 @@
 -- Words come to one outcome, where the files and the rest of the input are told.
-use Rattle.std.proofs.Common.{◌≡◌, inl, inr, ℕ, List, Option, Some, None, Result, Ok, Err, sym, ap, subst, ◌∙◌}
+use Rattle.std.proofs.Common.{◌≡◌, inl, inr, ℕ, List, [], ◌∷◌, Option, Some, None, Result, Ok, Err, sym, ap, subst, ◌∙◌}
 use Rattle.jm_decompress.proofs.OnceLaws.{decompresses_once}
 use Rattle.jm_form.specs.Damages.{first_damage, stored_damage}
 use Rattle.jm_form.specs.declared.damage.Damage.{Damage}
 use Rattle.jm_link.specs.declared.linking.Summary.{Summary}
-use Rattle.jm_link.specs.Links.{request_of}
-use Rattle.jm_link.proofs.GivenBack.{image_once}
+use Rattle.jm_link.specs.Linked.{LinkedImage, LinksFrom, Request}
+use Rattle.jm_link.specs.Links.{ComesTo, path_files, request_of}
 use Rattle.jm_link.proofs.OnceLaws.{links_once}
 use Rattle.jm_outside.specs.Files.{Files}
 use Rattle.jm_outside.specs.Made.{written}
@@ -14,18 +14,31 @@ use Rattle.jm_words.specs.declared.tasks.Command.{Command}
 use Rattle.jm_words.specs.declared.tasks.DecompressTask.{DecompressTask}
 use Rattle.jm_words.specs.declared.tasks.GenTask.{GenTask}
 use Rattle.jm_words.specs.declared.tasks.LinkTask.{LinkTask}
-use Rattle.jm_words.specs.declared.tasks.Source.{Source}
-use Rattle.jm_words.specs.declared.tasks.Source.TheVariants as source
 use Rattle.jm_words.specs.declared.tasks.Task.{Task}
 use Rattle.jm_words.specs.declared.tasks.Task.TheVariants as task
 use Rattle.jm_commands.specs.Gen.{gen_link, made_first}
 use Rattle.jm_commands.specs.KeptOrder.{ordered_by}
+use Rattle.jm_texts.specs.declared.refusal.Refusal.{Refusal}
+use Rattle.jm_outside.specs.Outcome.{Shows}
 use Rattle.jm_commands.specs.LinkText.{decompress_text, gen_text, link_text}
 use Rattle.jm_inspect.specs.Outcome.{Outcome, describe_outcome, faulty, image_outcome}
 use Rattle.jm_commands.specs.Outcome.{behind, link_outcome}
-use Rattle.jm_commands.specs.Run.{AskTheSame, DecompressComesTo, GenComesTo, ImageLinkComesTo, LinkComesFrom, PathLinkComesTo}
+use Rattle.jm_commands.specs.Run.{AskTheSame, DecompressComesTo, GenComesTo, LinkComesBy, LinkComesOf, LinkComesWith}
 use Rattle.jm_commands.specs.Run.{TaskComesTo, WordsComeTo}
 use Rattle.jm_inspect.specs.Works.{FileComesTo, FoundComesTo, JudgedComes, OpenedComesTo, TextComesTo}
+
+-- what a link of told files comes to
+comes_to_once : (files : Files) (image : Option (List ℕ)) (directories : List (List ℕ)) (asked : Request)
+    (a b : Result LinkedImage Refusal) → ComesTo (Some files) image directories asked a → ComesTo (Some files) image directories asked b
+    → a ≡ b
+comes_to_once files image directories asked a b comes comes' = go directories (comes.0) (comes'.0)
+  where
+    links : List (List ℕ) → Option Files → Result LinkedImage Refusal → Type 0
+    links ds shown result = Shows shown (λ told. LinksFrom (record { image = image; files = told; directories = ds }) asked result)
+
+    go : (ds : List (List ℕ)) → links ds (path_files ds (Some files)) a → links ds (path_files ds (Some files)) b → a ≡ b
+    go [] = links_once (record { image = image; files = []; directories = [] }) asked a b
+    go (d ∷ ds) = links_once (record { image = image; files = files; directories = d ∷ ds }) asked a b
 
 -- what comes of a file or of a text
 
@@ -60,22 +73,20 @@ module _ (one other : Outcome) where
 
   -- what comes of a link
 
-  module _ (text : Summary → List ℕ) (files : Files) (link : LinkTask) where
-    path_once : (directories : List (List ℕ)) → PathLinkComesTo text (Some files) link directories one
-        → PathLinkComesTo text (Some files) link directories other → one ≡ other
-    path_once directories (inl (result, comes, shows, is)) (inl (same, comes', shows', is')) =
-        is ∙ ap (link_outcome text link.output) (links_once files directories (request_of link) result same comes.0 comes'.0) ∙ sym is'
-    path_once directories (inr (listed, never, below, is)) later = absurd never
-    path_once directories first (inr (listed, never, below, is)) = absurd never
+  module _ (text : Summary → List ℕ) (files : Files) where
+    of_once : (image : Option (List ℕ)) (link : LinkTask) → LinkComesOf text (Some files) image link one
+        → LinkComesOf text (Some files) image link other → one ≡ other
+    of_once image link (inl (result, comes, shows, is)) (inl (same, comes', shows', is')) =
+        is ∙ ap (link_outcome text link.output) (comes_to_once files image link.directories (request_of link) result same comes comes')
+        ∙ sym is'
+    of_once image link (inr (listed, never, below, is)) later = absurd never
+    of_once image link first (inr (listed, never, below, is)) = absurd never
 
-    image_link_once : (b : List ℕ) → ImageLinkComesTo text link b one → ImageLinkComesTo text link b other → one ≡ other
-    image_link_once b (result, comes, shows, is) (same, comes', shows', is') =
-        is ∙ ap (link_outcome text link.output) (image_once b (request_of (ordered_by b link)) result same comes.0 comes'.0) ∙ sym is'
-
-    from_once : (given : Source) → LinkComesFrom text (Some files) link given one → LinkComesFrom text (Some files) link given other
-        → one ≡ other
-    from_once (source.Path directories) is same = path_once directories is same
-    from_once (source.Image path) is same = judged_once first_damage files path (ImageLinkComesTo text link) image_link_once is same
+    by_once : (link : LinkTask) (path : Option (List ℕ)) → LinkComesBy text (Some files) link path one
+        → LinkComesBy text (Some files) link path other → one ≡ other
+    by_once link None is same = of_once None link is same
+    by_once link (Some path) is same =
+        judged_once first_damage files path (LinkComesWith text (Some files) link) (λ b. of_once (Some b) (ordered_by b link)) is same
 
 -- what comes of a `decompress`
 decompress_once : (decompress : DecompressTask) (b : List ℕ) (one other : Outcome) → DecompressComesTo decompress b one
@@ -86,12 +97,12 @@ decompress_once decompress b one other (result, comes, shows, is) (same, comes',
 gen_once : (files : Files) (gen : GenTask) (one other : Outcome) → GenComesTo (Some files) gen one → GenComesTo (Some files) gen other
     → one ≡ other
 gen_once files gen one other (linked, comes, is) (linked', comes', is') =
-    is ∙ ap (behind (made_first gen)) (from_once linked linked' gen_text (written files (made_first gen)) (gen_link gen)
-    (gen_link gen).source comes comes') ∙ sym is'
+    is ∙ ap (behind (made_first gen)) (by_once linked linked' gen_text (written files (made_first gen)) (gen_link gen)
+    (gen_link gen).image comes comes') ∙ sym is'
 
 task_once : (files : Files) (text : List ℕ) (given : Task) (one other : Outcome) → TaskComesTo (Some files) (Some text) given one
     → TaskComesTo (Some files) (Some text) given other → one ≡ other
-task_once files text (task.Link link) one other is same = from_once one other link_text files link link.source is same
+task_once files text (task.Link link) one other is same = by_once one other link_text files link link.image is same
 task_once files text (task.Image image work) one other is same =
     judged_once one other first_damage files image (λ b. TextComesTo (Some text) (image_outcome work b))
     (λ b due due'. text_once one other text (image_outcome work b) due due') is same

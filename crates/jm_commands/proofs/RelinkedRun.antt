@@ -1,14 +1,15 @@
 -- A run that relinks an image gives it back.
-use Rattle.std.proofs.Common.{◌≡◌, inl, inr, ℕ, List, [], ◌∷◌, Option, Some, Result, Ok, Err, sym, ap, subst, ◌∙◌}
+use Rattle.std.proofs.Common.{◌≡◌, inl, inr, ℕ, List, [], ◌∷◌, Contains, Option, Some, Result, Ok, Err, sym, ap, subst, ◌∙◌}
 use Rattle.jm_outside.specs.Made.{MadeAll}
 use Rattle.jm_form.specs.Damages.{first_damage}
 use Rattle.jm_form.specs.Validity.{Valid}
 use Rattle.jm_form.proofs.Validity.{valid_sound}
 use Rattle.jm_texts.specs.declared.refusal.Refusal.{Refusal}
-use Rattle.jm_link.specs.ImageLinked.{ImageComesTo}
 use Rattle.jm_link.specs.Linked.{LinkedImage, Request}
-use Rattle.jm_link.specs.Links.{request_of}
-use Rattle.jm_link.proofs.GivenBack.{laid, never_refused, same_bytes}
+use Rattle.jm_link.specs.Links.{ComesTo, request_of}
+use Rattle.jm_bytes.proofs.Members.{contains_none}
+use Rattle.jm_link.proofs.GivenBack.{never_refused, same_bytes}
+use Rattle.jm_link.proofs.MadeFrom.{linked_laid}
 use Rattle.jm_outside.specs.Files.{Files, file as read}
 use Rattle.jm_outside.specs.Outcome.{Shows}
 use Rattle.jm_words.specs.declared.errors.WordsFault.{WordsFault}
@@ -22,7 +23,8 @@ use Rattle.jm_commands.specs.LinkText.{link_text}
 use Rattle.jm_inspect.specs.Outcome.{Early, Outcome}
 use Rattle.jm_commands.specs.Outcome.{link_outcome}
 use Rattle.jm_commands.specs.RelinkedRun.{IsRelinked, RelinksFile, RelinksRun, RelinksTask}
-use Rattle.jm_commands.specs.Run.{EndsWith, ImageLinkComesTo, IsFailed, LinkComesFrom, LinkComesTo, RunComesTo, RunDoes, TaskComesTo}
+use Rattle.jm_commands.specs.KeptOrder.{ordered_by}
+use Rattle.jm_commands.specs.Run.{EndsWith, IsFailed, LinkComesBy, LinkComesOf, LinkComesTo, LinkComesWith, RunComesTo, RunDoes, TaskComesTo}
 use Rattle.jm_commands.specs.Run.{WordsComeTo}
 use Rattle.jm_inspect.specs.Works.{FoundComesTo, HasFile, ImageComes, OpenedComesTo}
 use Rattle.jm_inspect.specs.Sinks.{Seen}
@@ -52,24 +54,33 @@ module _ (link : LinkTask) (b : List ℕ) where
       let never : ◌≡◌ {A = Status} status.Session status.Done = ends.0 ∙ done in cc
 
   module _ (told : Option Files) (file : RelinksFile link told b) (due : Outcome) where
+    abbrev Makes : Type 0
+    Makes = (due.status ≡ status.Done) × (due.writes ≡ (link.output, b) ∷ [])
+
     -- what is due makes these bytes
-    by_result : (result : Result LinkedImage Refusal) → ImageComesTo b (request_of link) result → due
-        ≡ link_outcome link_text link.output result → (due.status ≡ status.Done) × (due.writes ≡ (link.output, b) ∷ [])
+    by_result : (result : Result LinkedImage Refusal) → ComesTo told (Some b) [] (request_of link) result
+        → due ≡ link_outcome link_text link.output result → Makes
     by_result (Ok image) comes is =
         let same = same_bytes b (request_of link) file.relinks image comes.0 in
         (ap (λ (d : Outcome). d.status) is, ap (λ (d : Outcome). d.writes) is ∙ ap (λ x. (link.output, x) ∷ []) same)
     by_result (Err refusal) comes is = absurd (never_refused b (request_of link) file.relinks refusal comes.0)
 
     valid : Valid b
-    valid = subst Valid (sym file.relinks.was.made) (laid b file.relinks.source file.relinks.first file.relinks.was).valid
+    valid =
+        let was = file.relinks.was in
+        subst Valid (sym was.made) (linked_laid file.relinks.source file.relinks.first was.image was.stands was.linked).valid
 
-    opened : OpenedComesTo (ImageLinkComesTo link_text link b) (first_damage b) due → (due.status ≡ status.Done)
-        × (due.writes ≡ (link.output, b) ∷ [])
-    opened comes = go (subst (λ d. OpenedComesTo (ImageLinkComesTo link_text link b) d due) (valid_sound b valid) comes)
-      where
-        go : ImageLinkComesTo link_text link b due → (due.status ≡ status.Done) × (due.writes ≡ (link.output, b) ∷ [])
-        go (result, links, shows, is) = by_result result
-            (subst (λ (asked : Request). ImageComesTo b asked result) (plain_request b link file.relinks.plugins) links) is
+    -- the link is of the image alone, and no plug-in changes what is asked
+    by_alone : LinkComesOf link_text told (Some b) (ordered_by b link) due → Makes
+    by_alone (inl (result, comes, shows, is)) =
+        let alone = subst (λ (ds : List (List ℕ)). ComesTo told (Some b) ds (request_of (ordered_by b link)) result) file.alone comes in
+        by_result result
+        (subst (λ (asked : Request). ComesTo told (Some b) [] asked result) (plain_request b link file.relinks.plugins) alone) is
+    by_alone (inr (listed, never, below, is)) =
+        absurd (contains_none below.0 (subst (λ (ds : List (List ℕ)). Contains ds below.0) file.alone below.1))
+
+    opened : OpenedComesTo (LinkComesWith link_text told link b) (first_damage b) due → Makes
+    opened comes = by_alone (subst (λ d. OpenedComesTo (LinkComesWith link_text told link b) d due) (valid_sound b valid) comes)
 
     found_is : (found : Option (List ℕ)) → HasFile told file.path found → found ≡ Some b
     found_is found has = subst (λ o. Shows o (λ files. found ≡ files_at files)) file.tells has ∙ file.found
@@ -77,14 +88,13 @@ module _ (link : LinkTask) (b : List ℕ) where
         files_at : Files → Option (List ℕ)
         files_at files = read files file.path
 
-    by_image : ImageComes told file.path (ImageLinkComesTo link_text link) due → (due.status ≡ status.Done)
-        × (due.writes ≡ (link.output, b) ∷ [])
+    by_image : ImageComes told file.path (LinkComesWith link_text told link) due → Makes
     by_image (found, has, comes) =
-        opened (subst (λ o. FoundComesTo (λ bytes. OpenedComesTo (ImageLinkComesTo link_text link bytes) (first_damage bytes))
+        opened (subst (λ o. FoundComesTo (λ bytes. OpenedComesTo (LinkComesWith link_text told link bytes) (first_damage bytes))
         file.path o due) (found_is found has) comes)
 
-    by_link : LinkComesTo link_text told link due → (due.status ≡ status.Done) × (due.writes ≡ (link.output, b) ∷ [])
-    by_link comes = by_image (subst (λ o. LinkComesFrom link_text told link o due) file.image comes)
+    by_link : LinkComesTo link_text told link due → Makes
+    by_link comes = by_image (subst (λ o. LinkComesBy link_text told link o due) file.image comes)
 
 module _ (early : Early) (due : Outcome) (is : Status) (old new : World) (err new_err : Seen (List ℕ))
     (does : RunDoes early due is old new err new_err) where

@@ -17,8 +17,6 @@ use Rattle.jm_words.specs.declared.tasks.Command.{Command}
 use Rattle.jm_words.specs.declared.tasks.ImageWork.{ImageWork}
 use Rattle.jm_words.specs.declared.tasks.ImageWork.TheVariants as work
 use Rattle.jm_words.specs.declared.tasks.LinkTask.{LinkTask}
-use Rattle.jm_words.specs.declared.tasks.Source.{Source}
-use Rattle.jm_words.specs.declared.tasks.Source.TheVariants.{Path, Image}
 use Rattle.jm_words.specs.declared.tasks.Task.{Task}
 use Rattle.jm_words.specs.declared.tasks.Task.TheVariants as task
 use Rattle.jm_inspect.specs.declared.complaint.Complaint.{Complaint}
@@ -28,7 +26,8 @@ use Rattle.jm_commands.specs.Gen.{gen_link, made_first}
 use Rattle.jm_commands.specs.LinkText.{decompress_text, gen_text, link_text}
 use Rattle.jm_inspect.specs.Outcome.{Early, Outcome, image_outcome, session_outcome, session_with}
 use Rattle.jm_commands.specs.Outcome.{link_outcome}
-use Rattle.jm_commands.specs.Run.{DecompressComesTo, EndsWith, ImageLinkComesTo, LinkComesFrom, LinkComesTo, RunComesTo, RunDoes}
+use Rattle.jm_commands.specs.KeptOrder.{ordered_by}
+use Rattle.jm_commands.specs.Run.{DecompressComesTo, EndsWith, LinkComesBy, LinkComesOf, LinkComesTo, LinkComesWith, RunComesTo, RunDoes}
 use Rattle.jm_commands.specs.Run.{TaskComesTo, WordsComeTo}
 use Rattle.jm_inspect.specs.Works.{HasFile, OpenedComesTo, TextComesTo}
 use Rattle.jm_commands.specs.Served.{ServesRun, served, served_in}
@@ -56,17 +55,22 @@ opened_session Sound due alone None comes = alone comes
 opened_session Sound due alone (Some damage) is = ap (λ o. o.session) is
 
 -- what a link comes to
+of_link_session : (text : Summary → List ℕ) (told : Option Files) (image : Option (List ℕ)) (link : LinkTask) (due : Outcome)
+    → LinkComesOf text told image link due → due.session ≡ None
+of_link_session text told image link due (inl (result, comes, shows, is)) =
+    ap (λ o. o.session) is ∙ link_session text link.output result
+of_link_session text told image link due (inr (listed, never, below, is)) = ap (λ o. o.session) is
+
 linked_session : (text : Summary → List ℕ) (told : Option Files) (link : LinkTask) (due : Outcome) → LinkComesTo text told link due
     → due.session ≡ None
-linked_session text told link due comes = from link.source comes
+linked_session text told link due comes = by link.image comes
   where
-    from : (source : Source) → LinkComesFrom text told link source due → due.session ≡ None
-    from (Path directories) (inl (result, comes, shows, is)) = ap (λ o. o.session) is ∙ link_session text link.output result
-    from (Path directories) (inr (listed, never, below, is)) = ap (λ o. o.session) is
-    from (Image path) (None, has, is) = ap (λ o. o.session) is
-    from (Image path) (Some b, has, comes) =
-        opened_session (ImageLinkComesTo text link b) due (λ (result, comes, shows, is). ap (λ o. o.session) is
-        ∙ link_session text link.output result) (first_damage b) comes
+    by : (path : Option (List ℕ)) → LinkComesBy text told link path due → due.session ≡ None
+    by None comes = of_link_session text told None link due comes
+    by (Some path) (None, has, is) = ap (λ o. o.session) is
+    by (Some path) (Some b, has, comes) =
+        opened_session (LinkComesWith text told link b) due (of_link_session text told (Some b) (ordered_by b link) due) (first_damage b)
+        comes
 
 due_session : (told : Option Files) (rest : Option (List ℕ)) (given : Task) (due : Outcome) → served given ≡ None
     → TaskComesTo told rest given due → due.session ≡ None

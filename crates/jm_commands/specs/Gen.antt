@@ -1,12 +1,11 @@
 -- The files that a `gen` makes first, and the link of them (this project's rule).
-use Rattle.std.specs.Prelude.{ℕ, List, [], ◌∷◌, ◌++◌, false, codes}
+use Rattle.std.specs.Prelude.{ℕ, List, [], ◌∷◌, ◌++◌, false, None, codes}
 use Rattle.jm_bytes.specs.declared.words.Order.TheVariants.{Little}
 use Rattle.jm_outside.specs.Made.{Writes}
 use Rattle.jm_gen.specs.Generated.{generated, module_names}
 use Rattle.jm_words.specs.declared.tasks.GenTask.{GenTask}
 use Rattle.jm_words.specs.declared.tasks.LinkTask.{LinkTask}
 use Rattle.jm_words.specs.declared.tasks.Plugin.TheVariants as plugin
-use Rattle.jm_words.specs.declared.tasks.Source.TheVariants.{Path}
 
 -- where the modules of a `gen` go
 abbrev pub modules_path : GenTask → List ℕ
@@ -23,7 +22,8 @@ made_first gen = generated (modules_path gen) gen.modules gen.classes gen.seed
 -- the link of a `gen`: all modules that it makes, without what their classes say for debuggers
 abbrev pub gen_link : GenTask → LinkTask
 gen_link gen = record {
-  source = Path (modules_path gen ∷ []);
+  directories = modules_path gen ∷ [];
+  image = None;
   roots = module_names gen.modules;
   output = image_path gen;
   plugins = plugin.Strip ∷ [];

@@ -29,7 +29,8 @@ with_order names plugin.DropSystemModules = plugin.DropSystemModules
 -- names of its resources, in the order of their contents
 abbrev pub ordered_by : List ℕ → LinkTask → LinkTask
 ordered_by b link = record {
-  source = link.source;
+  directories = link.directories;
+  image = link.image;
   roots = link.roots;
   output = link.output;
   plugins = map (with_order (file_order b)) link.plugins;

@@ -1,5 +1,5 @@
 -- What a run does that relinks an image (this project's rule).
-use Rattle.std.specs.Prelude.{ℕ, ◌≡◌, List, Option, Some, Result, Ok, Err}
+use Rattle.std.specs.Prelude.{ℕ, ◌≡◌, List, [], Option, Some, Result, Ok, Err}
 use Rattle.jm_outside.specs.Holds.{Holds}
 use Rattle.jm_link.specs.Links.{request_of}
 use Rattle.jm_link.specs.Relinked.{Relinks}
@@ -7,17 +7,17 @@ use Rattle.jm_outside.specs.Files.{Files, file}
 use Rattle.jm_words.specs.declared.errors.WordsFault.{WordsFault}
 use Rattle.jm_words.specs.declared.tasks.Command.{Command}
 use Rattle.jm_words.specs.declared.tasks.LinkTask.{LinkTask}
-use Rattle.jm_words.specs.declared.tasks.Source.TheVariants.{Image}
 use Rattle.jm_words.specs.declared.tasks.Task.{Task}
 use Rattle.jm_words.specs.declared.tasks.Task.TheVariants as task
 use Rattle.jm_inspect.specs.declared.status.Status.{Status}
 use Rattle.jm_inspect.specs.declared.status.Status.TheVariants as status
 
--- the image that is linked is these bytes, where the files are told, and what is asked for relinks
--- it
+-- the image that is linked alone is these bytes, where the files are told, and what is asked for
+-- relinks it
 pub record RelinksFile (link : LinkTask) (told : Option Files) (b : List ℕ) : Type 0 where
   pub path : List ℕ
-  pub image : link.source ≡ Image path
+  pub image : link.image ≡ Some path
+  pub alone : link.directories ≡ []
   pub files : Files
   pub tells : told ≡ Some files
   pub found : file files path ≡ Some b

@@ -1,12 +1,12 @@
 -- What a run did to the outside, said by what its command comes to (this project's rule).
-use Rattle.std.specs.Prelude.{ℕ, ◌≡◌, ◌≢◌, ◌⊎◌, IsTrue, List, [], Option, option_map, Result, Ok, Err}
+use Rattle.std.specs.Prelude.{ℕ, ◌≡◌, ◌≢◌, ◌⊎◌, IsTrue, List, [], Option, Some, None, option_map}
+use Rattle.std.specs.Prelude.{Result, Ok, Err}
 use Rattle.jm_outside.specs.Made.{MadePart, written}
 use Rattle.jm_jrt.specs.TreesShown.{ShowsTrees}
 use Rattle.jm_texts.specs.declared.refusal.Refusal.{Refusal}
 use Rattle.jm_decompress.specs.Decompressed.{DecompressComes}
 use Rattle.jm_link.specs.declared.linking.Summary.{Summary}
 use Rattle.jm_link.specs.Linked.{LinkedImage}
-use Rattle.jm_link.specs.ImageLinked.{ImageComesTo}
 use Rattle.jm_link.specs.Links.{ComesTo, request_of}
 use Rattle.jm_modpath.specs.Listed.{IsBelow}
 use Rattle.jm_outside.specs.Files.{Files}
@@ -16,8 +16,6 @@ use Rattle.jm_words.specs.declared.tasks.Command.{Command}
 use Rattle.jm_words.specs.declared.tasks.DecompressTask.{DecompressTask}
 use Rattle.jm_words.specs.declared.tasks.GenTask.{GenTask}
 use Rattle.jm_words.specs.declared.tasks.LinkTask.{LinkTask}
-use Rattle.jm_words.specs.declared.tasks.Source.{Source}
-use Rattle.jm_words.specs.declared.tasks.Source.TheVariants as source
 use Rattle.jm_words.specs.declared.tasks.Task.{Task}
 use Rattle.jm_words.specs.declared.tasks.Task.TheVariants as task
 use Rattle.jm_inspect.specs.declared.complaint.Complaint.{Complaint}
@@ -47,34 +45,33 @@ abbrev pub ShowsLinked : Result LinkedImage Refusal → Type 0
 ShowsLinked (Ok image) = ShowsTrees image.bytes image.resources
 ShowsLinked (Err refusal) = Unit {0}
 
--- a link from the directories of a module path comes to what their files do, where the shelf tells
--- them; a shelf that tells nothing may say of a file that it listed below one of them that it isn't
--- there. Told or not, an image is laid out and shows its trees
-abbrev pub PathLinkComesTo
-    : (Summary → List ℕ) → Option Files → LinkTask → List (List ℕ) → Outcome → Type 0
-PathLinkComesTo text told link directories due =
-    ((result : Result LinkedImage Refusal) × ComesTo told directories (request_of link) result
+-- a link of the modules of an image of these bytes, if there is one, and of a module path comes to
+-- what these do; a shelf that tells nothing may say of a file that it listed below a directory of
+-- the module path that it isn't there. Told or not, an image is laid out and shows its trees
+abbrev pub LinkComesOf
+    : (Summary → List ℕ) → Option Files → Option (List ℕ) → LinkTask → Outcome → Type 0
+LinkComesOf text told image link due =
+    ((result : Result LinkedImage Refusal)
+    × ComesTo told image link.directories (request_of link) result
     × ShowsLinked result × (due ≡ link_outcome text link.output result))
-    ⊎ ((listed : List ℕ) × Shows told (λ files. ⊥) × IsBelow directories listed
+    ⊎ ((listed : List ℕ) × Shows told (λ files. ⊥) × IsBelow link.directories listed
     × (due ≡ not_there listed))
 
--- a link of the modules of an image without a damage; its plug-ins know the order of that image
-abbrev pub ImageLinkComesTo : (Summary → List ℕ) → LinkTask → List ℕ → Outcome → Type 0
-ImageLinkComesTo text link b due =
-    (result : Result LinkedImage Refusal) × ImageComesTo b (request_of (ordered_by b link)) result
-    × ShowsLinked result × (due ≡ link_outcome text link.output result)
+-- the same with an image without a damage; its plug-ins know the order of that image
+abbrev pub LinkComesWith
+    : (Summary → List ℕ) → Option Files → LinkTask → List ℕ → Outcome → Type 0
+LinkComesWith text told link b due = LinkComesOf text told (Some b) (ordered_by b link) due
 
--- what a link comes to, by where its modules are
-abbrev pub LinkComesFrom
-    : (Summary → List ℕ) → Option Files → LinkTask → Source → Outcome → Type 0
-LinkComesFrom text told link (source.Path directories) due =
-    PathLinkComesTo text told link directories due
-LinkComesFrom text told link (source.Image path) due =
-    ImageComes told path (ImageLinkComesTo text link) due
+-- what a link comes to, by the path of its image, if it has one: the file of the path first
+abbrev pub LinkComesBy
+    : (Summary → List ℕ) → Option Files → LinkTask → Option (List ℕ) → Outcome → Type 0
+LinkComesBy text told link None due = LinkComesOf text told None link due
+LinkComesBy text told link (Some path) due =
+    ImageComes told path (LinkComesWith text told link) due
 
--- what a link comes to, by the text on what was linked, by the files and by where its modules are
+-- what a link comes to, by the text on what was linked and by the files
 abbrev pub LinkComesTo : (Summary → List ℕ) → Option Files → LinkTask → Outcome → Type 0
-LinkComesTo text told link due = LinkComesFrom text told link link.source due
+LinkComesTo text told link due = LinkComesBy text told link link.image due
 
 -- a `decompress` of an image without a damage, read as stored: the image of its resources as
 -- `DecompressComes` says, laid out and showing its trees, or what is refused

@@ -1,8 +1,8 @@
 //! The command `gen`.
-ghost use Rattle.std.specs.Prelude.{◌≡◌, ◌∷◌, ◌++◌, [], IfOk, IsTrue, IsUtf8};
+ghost use Rattle.std.specs.Prelude.{◌≡◌, ◌∷◌, ◌++◌, [], None, IfOk, IsTrue, IsUtf8};
 ghost use Rattle.std.specs.Prelude.{List, ℕ};
-ghost use Rattle.jm_link.specs.Links.{Links, request_of};
-ghost use Rattle.jm_link.specs.PathTaken.{PathTakes};
+ghost use Rattle.jm_link.specs.FiledLinked.{FiledLinks};
+ghost use Rattle.jm_link.specs.Links.{request_of};
 ghost use Rattle.jm_link.specs.Steps.{AfterStep, Lacks};
 ghost use Rattle.jm_modpath.specs.Listed.{IsBelow};
 ghost use Rattle.jm_words.specs.Paths.{GenFits};
@@ -24,7 +24,7 @@ use jm_halves::{Gate, Workers};
 use jm_inspect::{Stop, put_text};
 use jm_link::{LinkStop, Summary, link};
 use jm_outside::{Shelf, Sink};
-use jm_words::{GenTask, LinkTask, Plugin, Source};
+use jm_words::{GenTask, LinkTask, Plugin};
 use std::alloc::Global;
 use std::thread::Threads;
 
@@ -50,11 +50,10 @@ fn link_generated<T: Threads + Sync, S: Shelf, G: Gate + Sync>(
 ) -> Result<Summary, LinkStop>
     requires dir { IsUtf8 task.now.dir }
     requires mods { IsUtf8 mods }
-    ensures links { Links (mods ∷ []) (request_of (gen_link task.now)) (image_path task.now) result
-        (shelf_at S.Shelf shelf.old) (shelf_at S.Shelf shelf.new) }
-    ensures lacks { Lacks (IsBelow (mods ∷ [])) result }
-    ensures takes { PathTakes (S.files shelf.old) (mods ∷ []) (request_of (gen_link task.now))
+    ensures links { FiledLinks None (mods ∷ []) (request_of (gen_link task.now))
+        (image_path task.now) result (shelf_at S.Shelf shelf.old) (shelf_at S.Shelf shelf.new)
         (S.handed shelf.old) (S.handed shelf.new) }
+    ensures lacks { Lacks (IsBelow (mods ∷ [])) result }
     ensures whole { AfterStep (IsTrue (S.whole shelf.new)) result }
 {
     let mut dirs = List::new(workers.alloc);
@@ -62,7 +61,8 @@ fn link_generated<T: Threads + Sync, S: Shelf, G: Gate + Sync>(
     let mut plugins = List::new(workers.alloc);
     plugins.push(Plugin::Strip)?;
     let link_task = LinkTask {
-        source: Source::Path(dirs),
+        directories: dirs,
+        image: None,
         roots: module_names(workers.alloc, task.modules)?,
         output: below(workers.alloc, task.dir.as_slice(), "/image".as_bytes())?,
         plugins,

@@ -72,7 +72,7 @@ fn all_with_order(
 }
 
 /// What is asked of a link of the modules of an image, where each plug-in that keeps the order of
-/// the contents has the names of the image's resources in it. Where none does, no name is looked at.
+/// the contents has the names of the image's resources in it. Where none does, no name is read.
 pub fn ordered_by<R: Ledger>(
     alloc: Global,
     task: LinkTask,
@@ -89,7 +89,8 @@ pub fn ordered_by<R: Ledger>(
     let mut reads = Meter::<R>::new(image.bytes(), reads);
     let names = names_in_file_order(alloc, image.as_index(), &mut reads)?;
     Ok(LinkTask {
-        source: task.source,
+        directories: task.directories,
+        image: task.image,
         roots: task.roots,
         output: task.output,
         plugins: all_with_order(alloc, task.plugins, names.as_slice())?,

@@ -13,7 +13,7 @@ use Rattle.jm_form.specs.Places.{strings}
 use Rattle.jm_link.specs.declared.linking.LinkStop.{LinkStop}
 use Rattle.jm_link.specs.declared.linking.LinkStop.TheVariants as stop
 use Rattle.jm_link.specs.Steps.{stop_of_fault}
-use Rattle.jm_link.proofs.ResourceLaws.{name_is_new}
+use Rattle.jm_modset.proofs.ReadLaws.{name_is_new}
 use Rattle.jm_packed.specs.declared.packed.PackedFault.{PackedFault}
 use Rattle.jm_packed.specs.Packed.{ContentComes}
 use Rattle.jm_pool.specs.Pairs.{bytes_of, names_of}

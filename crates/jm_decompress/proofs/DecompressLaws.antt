@@ -7,7 +7,7 @@ use Rattle.jm_form.specs.Places.{strings}
 use Rattle.jm_form.specs.Validity.{StoredAs}
 use Rattle.jm_link.specs.Linked.{IsPluggedTo, LinkedImage, PlugsTo, Request}
 use Rattle.jm_link.specs.Links.{IsLaid, PoolComesTo}
-use Rattle.jm_link.specs.Resources.{AreFit}
+use Rattle.jm_modset.specs.Shown.{AreFit}
 use Rattle.jm_plugins.specs.declared.chain.BadClass.{BadClass}
 use Rattle.jm_plugins.specs.Matching.{kept}
 use Rattle.jm_plugins.specs.Plugins.{GoesOn}

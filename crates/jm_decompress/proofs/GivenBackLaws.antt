@@ -22,14 +22,13 @@ use Rattle.jm_form.specs.Entries.{Entry, content_of, entries}
 use Rattle.jm_form.specs.Layout.{Written, layout, names_of}
 use Rattle.jm_form.specs.Places.{contents, strings}
 use Rattle.jm_form.specs.Rows.{as_stored}
-use Rattle.jm_link.specs.Linked.{LinkedImage, Request, image_with, laid_out, layout_refusal}
-use Rattle.jm_link.specs.Relinked.{IsLinkedFrom, IsOnShelf, LinksFrom, Source, leaves_order}
+use Rattle.jm_link.specs.Linked.{LinkedImage, LinksFrom, Request, image_with, laid_out, layout_refusal}
+use Rattle.jm_link.specs.Relinked.{AreOnShelf, IsLinkedFrom, leaves_order}
 use Rattle.jm_link.proofs.FileOrder.{IsFirstOrOne}
-use Rattle.jm_link.proofs.KeptLaws.{applied}
 use Rattle.jm_link.proofs.LaidLaws.{can_lay, laid_bytes, resources_apart}
 use Rattle.jm_link.proofs.LaidOrder.{AreFirst, NamesDiffer, kept_back, layout_order}
-use Rattle.jm_link.proofs.MadeFrom.{left_plain, left_sound, made_from, modules_taken}
-use Rattle.jm_link.proofs.SeenAgain.{kept_of}
+use Rattle.jm_link.proofs.MadeFrom.{left_of, left_plain, left_sound, made_from}
+use Rattle.jm_modset.specs.Found.{Sources}
 use Rattle.jm_names.proofs.ComputedFaultLaws.{HasFault-computed}
 use Rattle.jm_names.specs.ComputedFault.{name_fault}
 use Rattle.jm_names.specs.NameFaults.{IsSound}
@@ -219,20 +218,18 @@ module _ (order : Order) (resources : List Written) (b : List ℕ) (free : layou
 -- An image that a link made
 
 -- it comes back, whether or not the descriptors of the modules stand in it
-pub link_given_back : (source : Source) (first : Request) (image : LinkedImage) → IsOnShelf source → LinksFrom source first (Ok image)
+pub link_given_back : (source : Sources) (first : Request) (image : LinkedImage) → AreOnShelf source → LinksFrom source first (Ok image)
     → All (λ one. leaves_order one ≡ true) first.plugins → (result : Result LinkedImage Refusal) → DecompressesTo image.bytes result
     → (given : LinkedImage) × (result ≡ Ok given) × (given.bytes ≡ image.bytes)
 link_given_back source first image stands linked unordered result to =
     let from = made_from source first image stands linked in
     let made = from.made in
     let left = made.left in
-    let before = from.gathered made.places in
     let bytes : image.bytes ≡ (image_with first.order (length made.places) left).bytes = ap (λ (x : LinkedImage). x.bytes) made.is in
     let sound = left_sound source first image from in
     let plain = left_plain source first image from in
     let there = (laid_bytes first.order left made.fits (length made.places)).0 in
-    let are = kept_of first.release (modules_taken first from.found from.gathered image made) before left
-    (applied first.release IsFirstOrOne first.plugins before left unordered made.plugged) from.of in (
+    let are = left_of source first image from unordered in (
       image_with first.order 0 left,
       layout_given_back first.order left image.bytes made.fits (there ∙ ap (λ (x : List ℕ). Some x) (sym bytes)) sound plain are.order
           result to,
@@ -240,7 +237,7 @@ link_given_back source first image stands linked unordered result to =
     )
 
 -- an image that a link made without an order of resources comes back, byte for byte
-pub given_back : (source : Source) (first : Request) (b : List ℕ) → IsLinkedFrom source first b → (result : Result LinkedImage Refusal)
+pub given_back : (source : Sources) (first : Request) (b : List ℕ) → IsLinkedFrom source first b → (result : Result LinkedImage Refusal)
     → DecompressesTo b result → (image : LinkedImage) × (result ≡ Ok image) × (image.bytes ≡ b)
 given_back source first b was result to =
     let back = link_given_back source first was.image was.stands was.linked was.unordered result

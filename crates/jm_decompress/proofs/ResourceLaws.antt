@@ -16,7 +16,7 @@ use Rattle.jm_form.specs.declared.rows.Row.{Row}
 use Rattle.jm_form.specs.Entries.{Entry, entries}
 use Rattle.jm_form.specs.Head.{header_of}
 use Rattle.jm_form.specs.Rows.{as_stored}
-use Rattle.jm_link.specs.Resources.{AreFit}
+use Rattle.jm_modset.specs.Shown.{AreFit}
 use Rattle.jm_names.proofs.KeyLaws.{differ_moved}
 use Rattle.jm_names.specs.NameFaults.{IsSound}
 use Rattle.jm_names.specs.Names.{is_node}

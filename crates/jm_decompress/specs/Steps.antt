@@ -14,7 +14,7 @@ use Rattle.jm_form.specs.Places.{strings}
 use Rattle.jm_form.specs.Rows.{as_stored}
 use Rattle.jm_link.specs.declared.linking.LinkStop.{LinkStop}
 use Rattle.jm_link.specs.declared.linking.LinkStop.TheVariants as stop
-use Rattle.jm_link.specs.Resources.{AreFit}
+use Rattle.jm_modset.specs.Shown.{AreFit}
 use Rattle.jm_link.specs.Steps.{StepGives}
 use Rattle.jm_names.specs.Names.{is_node}
 use Rattle.jm_outside.specs.Files.{Files}

@@ -16,8 +16,8 @@ pub const MOST_NAMES: u32 = 1_000;
 /// The longest name, in bytes, that what isn't finished has in its own.
 const MOST_NAME_BYTES: usize = 230;
 
-/// Whose an unfinished file or folder is, by its name in the folder that has it: a run has it locked
-/// while it goes on. None of any other file or folder.
+/// Whose an unfinished file or folder is, by its name in the folder that has it: a run has it
+/// locked while it goes on. None of any other file or folder.
 pub fn unfinished_at<R: Files<File = File>>(rt: &R, path: Path<'_>, name: &str) -> Option<Reason> {
     let front = name.trim_end_matches(|sign: char| sign.is_ascii_digit());
     if front.len() == name.len() || !front.ends_with(MARK) {

@@ -1,4 +1,5 @@
-ghost use Rattle.std.specs.Prelude.{◌≡◌, ◌&&◌, None, Ok, is_none, IsOk, IsTrue, IfOk, OnOk, IsErrOf};
+ghost use Rattle.std.specs.Prelude.{◌≡◌, ◌&&◌, None, Ok, is_none, IsOk, IsTrue, IfOk, OnOk};
+ghost use Rattle.std.specs.Prelude.{IsErrOf};
 ghost use Rattle.jm_outside.specs.Outcome.{CountsFaults};
 ghost use Rattle.jm_disk.specs.Kept.{is_kept};
 

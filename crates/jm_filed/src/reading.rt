@@ -1,5 +1,5 @@
 //! What stands at an extent of an image's file.
-ghost use Rattle.std.specs.Prelude.{◌≡◌, ◌≤◌, ◌+◌, ℕ, List, IsErrOf, IsOk, IsUtf8, OnOk};
+ghost use Rattle.std.specs.Prelude.{◌≡◌, ◌≤◌, ◌+◌, ℕ, List, IsErrOf, IsOk, IsTrue, IsUtf8, OnOk};
 ghost use Rattle.jm_outside.specs.Outcome.{CountsFaults, Shows};
 ghost use Rattle.jm_filed.specs.Filed.{IsAt, IsReadAt, content_at};
 
@@ -21,6 +21,7 @@ pub fn read_extent<S: Shelf>(
     ensures read { OnOk result (IsReadAt (S.files shelf.old) path.now extent text.new) }
     ensures content { (b : List ℕ) → IsAt (S.files shelf.old) path.now b
         → OnOk result (Shows (S.files shelf.old) (λ files. text.new ≡ content_at b extent)) }
+    ensures whole { OnOk result (IsTrue (S.whole shelf.new)) }
     ensures handed { S.handed shelf.new ≤ S.handed shelf.old + extent.size }
     ensures faults { CountsFaults (S.faults shelf.old) (S.faults shelf.new) (IsOk result)
         (IsErrOf result ShelfError.Failed) }

@@ -36,8 +36,8 @@ impl<'a> Model for OpenStored<'a> {
 }
 
 impl<'a> OpenStored<'a> {
-    /// Opens the index of the image in the file at a path as it is stored, on all jobs. Its bytes are
-    /// read to `front`, in the place of what that holds, and no more of the file is read.
+    /// Opens the index of the image in the file at a path as it is stored, on all jobs. Its bytes
+    /// are read to `front`, in the place of what that holds, and no more of the file is read.
     pub fn at<T: Threads + Sync, S: Shelf, G: Gate + Sync>(
         workers: &Workers<T, G>,
         path: &'a Text,

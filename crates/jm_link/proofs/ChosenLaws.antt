@@ -18,7 +18,7 @@ use Rattle.jm_closure.specs.Modules.{HasName, Reached, name_of}
 use Rattle.jm_closure.specs.Refusals.{AreChosen}
 use Rattle.jm_link.specs.Chosen.{Chosen}
 use Rattle.jm_link.specs.Closing.{ClosesWith}
-use Rattle.jm_link.proofs.FileLaws.{got}
+use Rattle.jm_modset.proofs.ItemLaws.{got}
 use Rattle.jm_bytes.proofs.ByteOrderLaws.{less}
 use Rattle.jm_bytes.proofs.Members.{element_at}
 

@@ -22,29 +22,13 @@ use Rattle.jm_closure.specs.Refusals.{AreChosen, Closes, Holds, IsAcyclic, IsUns
 use Rattle.jm_bytes.proofs.Choice.{mapped_some}
 use Rattle.jm_link.specs.Chosen.{Chosen}
 use Rattle.jm_link.proofs.ChosenLaws.{chosen_below, places_by_name}
-use Rattle.jm_link.proofs.FileLaws.{got}
-use Rattle.jm_link.proofs.SeenAgain.{Before}
+use Rattle.jm_modset.proofs.ItemLaws.{got}
+use Rattle.jm_modset.proofs.SetLaws.{pairs_at, place_of}
+use Rattle.jm_relink.proofs.AskedLaws.{Before}
 use Rattle.jm_bytes.proofs.Members.{element_at}
 use Rattle.std.proofs.lemmas.Option.{slice_get_within}
 
 -- Places
-
-pub pairs_at : {X : Type 0} (R : X → X → Type 0) (xs : List X) → AllPairs R xs → (i j : ℕ) (x y : X) → slice_get xs i ≡ Some x
-    → slice_get xs j ≡ Some y → i < j → R x y
-pairs_at R xs pairs i j x y one other less =
-    let up = pairs i j x less (slice_get_within xs j y other) in
-    rw (at i x one, at j y other) at up
-  where
-    at : (k : ℕ) (z : _) → slice_get xs k ≡ Some z → get_or xs k x ≡ z
-    at k z is = same_some _ _ (sym (slice_get-get_or xs k x (slice_get_within xs k z is)) ∙ is)
-
-place_of : {X : Type 0} (xs : List X) (x : X) → Contains xs x → (i : ℕ) × (slice_get xs i ≡ Some x)
-place_of [] x there = absurd (contains_none x there)
-place_of (y ∷ xs) x there =
-    elim (contains_cases y xs x there) [
-      | inl same ↦ (0, ap Some same)
-      | inr later ↦ let at = place_of xs x later in (suc at.0, at.1)
-    ]
 
 -- an item at a place among those that some places give
 pub at_place : {X : Type 0} (xs : List X) (places : List ℕ) → ((i : ℕ) → Contains places i → i < length xs) → (k : ℕ) (x : X)

@@ -27,8 +27,8 @@ use Rattle.jm_relink.specs.Groups.{Group, group_in, groups, has_info}
 use Rattle.jm_relink.proofs.GroupLaws.{groups_rise, in_group}
 use Rattle.jm_relink.proofs.ListLaws.{pairs_unmap}
 use Rattle.jm_relink.proofs.NameLaws.{file_of_parts, names_tell}
-use Rattle.jm_link.specs.ImageParts.{info_sizes}
-use Rattle.jm_link.specs.ImageTaken.{infos_of, is_info, sizes}
+use Rattle.jm_modset.specs.Infos.{info_sizes}
+use Rattle.jm_modset.specs.Infos.{infos_of, is_info, sizes}
 use Rattle.jm_link.proofs.TakenLaws.{info_by_path, sum_among}
 
 -- the descriptor of a module in an image

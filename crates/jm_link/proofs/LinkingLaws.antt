@@ -1,10 +1,7 @@
 -- What a link does, from what its steps did.
-use Rattle.std.proofs.Common.{◌≡◌, ◌≢◌, ◌⊎◌, ◌<◌, inl, inr, ℕ, suc, Bool, true, false, List, [], ◌∷◌, rules}
-use Rattle.std.proofs.Common.{length, map, All, AllPairs, Option, Some, None, Result, Ok, Err, refl, sym, ap}
+use Rattle.std.proofs.Common.{◌≡◌, inl, inr, ℕ, Bool, true, false, List, rules}
+use Rattle.std.proofs.Common.{length, Option, Some, None, Result, Ok, Err, refl, sym, ap}
 use Rattle.std.proofs.Common.{subst}
-use Rattle.std.proofs.lemmas.List.Elements.{All-contains, All-map}
-use Rattle.jm_bytes.proofs.Members.{all_from_contains, contains_map}
-use Rattle.jm_bytes.specs.Checks.{first_fault}
 use Rattle.jm_bytes.specs.declared.faults.Or.{Or}
 use Rattle.jm_bytes.specs.declared.faults.Or.TheVariants as or
 use Rattle.jm_bytes.specs.declared.words.Order.{Order}
@@ -13,41 +10,31 @@ use Rattle.jm_closure.specs.declared.candidate.Candidate.{Candidate}
 use Rattle.jm_closure.specs.declared.fault.CloseFault.{CloseFault}
 use Rattle.jm_closure.specs.Refusals.{Closes}
 use Rattle.jm_form.specs.Layout.{Written, names_of}
-use Rattle.jm_names.specs.ByName.{Named}
 use Rattle.jm_names.specs.NameFaults.{IsSound}
 use Rattle.jm_names.specs.Names.{is_node}
 use Rattle.jm_outside.specs.Files.{Files}
-use Rattle.jm_outside.specs.Outcome.{Rose, Shows}
+use Rattle.jm_outside.specs.Outcome.{Rose}
 use Rattle.jm_outside.specs.Shelves.{ShelfFailed, ShelfSeen}
 use Rattle.jm_plugins.specs.Plugins.{Applies}
 use Rattle.jm_words.specs.declared.tasks.Plugin.{Plugin}
 use Rattle.jm_plugins.specs.declared.chain.BadClass.{BadClass}
 use Rattle.jm_plugins.proofs.ComputedPluginsLaws.{applies_only}
 use Rattle.jm_plugins.proofs.NameLaws.{names_differ, names_kept}
-use Rattle.jm_modpath.specs.declared.refusal.PathStop.{PathStop}
-use Rattle.jm_modpath.specs.declared.refusal.PathStop.TheVariants as path_stop
-use Rattle.jm_modpath.specs.declared.visible.VisibleModule.{VisibleModule}
-use Rattle.jm_modpath.specs.Finding.{AreVisible, ShowsModules}
-use Rattle.jm_modpath.specs.Modules.{candidates, visible}
 use Rattle.jm_texts.specs.declared.refusal.Refusal.{Refusal}
-use Rattle.jm_texts.specs.NameRefusals.{first_bad_name, name_refusal}
+use Rattle.jm_texts.specs.NameRefusals.{first_bad_name}
 use Rattle.jm_link.specs.declared.linking.LinkStop.{LinkStop}
 use Rattle.jm_link.specs.declared.linking.LinkStop.TheVariants as stop
 use Rattle.jm_link.specs.declared.linking.Summary.{Summary}
-use Rattle.jm_link.specs.declared.resources.ResourceFile.{ResourceFile}
-use Rattle.jm_link.specs.Chosen.{Chosen, reserved, roots_among}
-use Rattle.jm_link.specs.Closing.{ClosesAmong, ClosesWith, IsRefusedAmong}
-use Rattle.jm_link.specs.Linked.{IsGatheredTo, LinkedImage, LinksAmong, LinksTo, PlugsTo, Request}
-use Rattle.jm_link.specs.Linked.{image_with, laid_out, layout_refusal, path_refusal_as, plugging_refusal}
-use Rattle.jm_link.specs.Links.{BreaksOff, ComesTo, IsLaid, LinksBy, PoolComesTo, TellsNothing}
-use Rattle.jm_link.specs.ResourceFiles.{IsTakenFrom, IsToldIn, file_names, pair_of}
-use Rattle.jm_link.specs.Resources.{AreFit, link_files, resources_in, resources_of}
-use Rattle.jm_link.specs.Steps.{StepStops, stop_of_fault, stop_of_path}
+use Rattle.jm_link.specs.Chosen.{Chosen}
+use Rattle.jm_modset.specs.Parts.{TellsNothing}
+use Rattle.jm_modset.specs.Shown.{AreFit}
+use Rattle.jm_link.specs.Closing.{ClosesAmong, ClosesWith}
+use Rattle.jm_link.specs.Linked.{IsGatheredTo, LinkedImage, LinksAmong, PlugsTo, Request}
+use Rattle.jm_link.specs.Linked.{image_with, laid_out, layout_refusal, plugging_refusal}
+use Rattle.jm_link.specs.Links.{BreaksOff, IsLaid, LinksBy, PoolComesTo}
+use Rattle.jm_link.specs.Steps.{StepStops, stop_of_fault}
 use Rattle.jm_link.specs.Written.{WritesImage, WritesPart}
-use Rattle.jm_link.proofs.FileLaws.{files_free}
 use Rattle.jm_link.proofs.LaidLaws.{laid_free}
-use Rattle.jm_link.proofs.ListedLaws.{files_told, visible_told}
-use Rattle.jm_link.proofs.ResourcesApart.{file_names_apart}
 
 -- a failed link of results that are others' too
 breaks_as : (One Other : Result LinkedImage Refusal → Type 0) (path : List ℕ) (old new : ShelfSeen)
@@ -156,90 +143,24 @@ module _ (asked : Request) (modules : ℕ) (before : List Written) where
 
 -- The closure
 
-module _ (asked : Request) (found : List Candidate) (resources : List ℕ → List Written) where
-  abbrev roots : List (List ℕ)
-  roots = roots_among found asked.roots
-
+module _ (asked : Request) (roots : List (List ℕ)) (found : List Candidate) (resources : List ℕ → List Written) where
   chosen_as : (bind : Bool) (closed : Result (List ℕ) CloseFault) → ClosesWith bind found roots closed
       → Closes found roots (Chosen bind found roots) closed
   chosen_as true closed closes = closes
   chosen_as false closed closes = closes
 
   -- the closure was had
-  pub among_to : (places : List ℕ) → ClosesAmong found asked.roots asked.bind (Ok places) → (r : Result LinkedImage Refusal)
-      → IsGatheredTo asked (length places) (resources places) (first_bad_name (resources places)) r → LinksAmong asked found resources r
+  pub among_to : (places : List ℕ) → ClosesAmong found roots asked.bind (Ok places) → (r : Result LinkedImage Refusal)
+      → IsGatheredTo asked (length places) (resources places) (first_bad_name (resources places)) r
+      → LinksAmong asked roots found resources r
   among_to places (free, closes) r comes = rw free (Ok places, chosen_as asked.bind (Ok places) closes, comes)
 
   -- a reserved name, or the refusal of the closure
-  pub refused_among : (given : Refusal) → (reserved found ≡ Some given) ⊎ IsRefusedAmong found asked.roots asked.bind given
-      → LinksAmong asked found resources (Err given)
+  pub refused_among : (given : Refusal) → ClosesAmong found roots asked.bind (Err (stop.Refused given))
+      → LinksAmong asked roots found resources (Err given)
   refused_among given (inl is) = rw is refl
-  refused_among given (inr refused) =
-      rw refused.free (Err refused.fault, chosen_as asked.bind (Err refused.fault) refused.closes, ap (λ r. Err r) refused.refusal)
-
--- The steps of a link from a module path
-
--- a resource has the name of its file
-pub bad_name : (files : Files) (names : List Named) → first_bad_name (resources_of files names) ≡ first_bad_name names
-bad_name files names = ap first_fault (go names)
-  where
-    go : (names : List Named) → map name_refusal (resources_of files names) ≡ map name_refusal names
-    go [] = refl
-    go (f ∷ names) = ap (λ checks. name_refusal f ∷ checks) (go names)
-
-pub candidates_length : (ms : List VisibleModule) → length (candidates ms) ≡ length ms
-candidates_length [] = refl
-candidates_length (m ∷ ms) = ap suc (candidates_length ms)
-
--- the path shows no modules
-pub unseen : (directories : List (List ℕ)) (asked : Request) (given : PathStop) (path : List ℕ) (old new : ShelfSeen) → new.told
-    ≡ old.told → Shows old.told (λ files. ShowsModules asked.release files directories (Err given)) → (given ≡ path_stop.Outside
-    → ShelfFailed old new) → LinksBy (ComesTo old.told directories asked) (TellsNothing old.told) path (Err (stop_of_path given)) old new
-unseen directories asked (path_stop.Refused r) path old new same shows failed = ((go old.told shows, tt), same)
-  where
-    go : (t : Option Files) → Shows t (λ files. ShowsModules asked.release files directories (Err (path_stop.Refused r)))
-        → Shows t (λ files. LinksTo files directories asked (Err (path_refusal_as r)))
-    go None shows = tt
-    go (Some files) shows = rw shows refl
-unseen directories asked (path_stop.NotThere listed) path old new same shows failed = (shows, same)
-unseen directories asked path_stop.Outside path old new same shows failed = (inl same, failed refl)
-unseen directories asked path_stop.Memory path old new same shows failed = inl same
-
-module _ (told : Option Files) (directories : List (List ℕ)) (asked : Request) where
-  module _ (found : List VisibleModule) (shows : Shows told (λ files. ShowsModules asked.release files directories
-      (Ok found))) where
-    found_to : (r : Result LinkedImage Refusal) → IsLaid asked.order r → ((files : Files) → told ≡ Some files → LinksAmong asked
-        (candidates found) (resources_in files found) r) → ComesTo told directories asked r
-    found_to r laid comes = (go told shows comes, laid)
-      where
-        go : (t : Option Files) → Shows t (λ files. ShowsModules asked.release files directories (Ok found)) → ((files : Files)
-            → t ≡ Some files → LinksAmong asked (candidates found) (resources_in files found) r)
-            → Shows t (λ files. LinksTo files directories asked r)
-        go None shows comes = tt
-        go (Some files) (free, is) comes = rw (free, sym is) (comes files refl)
-
-    -- no closure was had
-    pub unclosed : (r : Refusal) → (reserved (candidates found) ≡ Some r) ⊎ IsRefusedAmong (candidates found) asked.roots asked.bind
-        r → ComesTo told directories asked (Err r)
-    unclosed r why = found_to (Err r) tt (λ files is. refused_among asked (candidates found) (resources_in files found) r why)
-
-    module _ (places : List ℕ) (closes : ClosesAmong (candidates found) asked.roots asked.bind (Ok places)) where
-      abbrev names : List Named
-      names = link_files found places
-
-      -- a name is unfit
-      pub unfit : (r : Refusal) → first_bad_name names ≡ Some r → ComesTo told directories asked (Err r)
-      unfit r is = found_to (Err r) tt (λ files shown.
-          among_to asked (candidates found) (resources_in files found) places closes (Err r) (rw (bad_name files names, is) refl))
-
-      -- the files were read
-      pub read_to : first_bad_name names ≡ None → (read : List Written) → Shows told (λ files. read ≡ resources_of files names)
-          → (r : Result LinkedImage Refusal) → PoolComesTo asked (length places) read r → ComesTo told directories asked r
-      read_to fit read is r (comes, laid) =
-          found_to r laid (λ files shown.
-          let same = subst (λ t. Shows t (λ files. read ≡ resources_of files names)) shown is in
-          among_to asked (candidates found) (resources_in files found) places closes r (rw (bad_name files names, fit, sym same)
-          comes))
+  refused_among given (inr (free, (fault, closes, same))) =
+      rw free (Err fault, chosen_as asked.bind (Err fault) closes, ap (λ r. Err r) same)
 
 -- reading ended the work
 pub unread : (Comes : Result LinkedImage Refusal → Type 0) (path : List ℕ) (given : LinkStop) (old new : ShelfSeen) → new.told
@@ -253,29 +174,3 @@ unread Comes path stop.Memory old new same is failed = inl same
 -- nothing is absent where nothing is read
 pub none_absent : (told : Option Files) → ⊥ → TellsNothing told
 none_absent told never = absurd never
-
--- Files that are linked
-
--- their names are fit
-pub files_fit : (found : List VisibleModule) (places : List ℕ) (fs : List ResourceFile) → map pair_of fs ≡ link_files found places
-    → AreVisible found → reserved (candidates found) ≡ None → All (λ p. p < length found) places → AllPairs (λ p q. p ≢ q) places
-    → All (λ f. IsSound f.name) fs → AreFit (file_names fs)
-files_fit found places fs is visible free within apart sound = record {
-  differ = file_names_apart found places fs is visible.texts visible.differ within apart;
-  sound = All-map IsSound (λ f. f.name) fs sound;
-  plain = All-map (λ name. is_node name ≡ false) (λ f. f.name) fs (plain (subst (All (λ f. is_node f.0 ≡ false)) (sym is)
-      (files_free found places visible.texts free)));
-}
-  where
-    plain : All (λ f. is_node f.0 ≡ false) (map pair_of fs) → All (λ f. is_node f.name ≡ false) fs
-    plain all = all_from_contains (λ f. is_node f.name ≡ false) fs (λ f there. All-contains (λ g. is_node g.0 ≡ false)
-        (map pair_of fs) (pair_of f) all (contains_map pair_of fs f there))
-
--- those of visible modules are told, as they were described
-pub taken_told : (release : ℕ) (told : Option Files) (directories : List (List ℕ)) (found : List VisibleModule) (fs : List ResourceFile)
-    → Shows told (λ files. ShowsModules release files directories (Ok found)) → All (IsTakenFrom found) fs
-    → Shows told (λ files. All (IsToldIn files) fs)
-taken_told release None directories found fs shows taken = tt
-taken_told release (Some files) directories found fs (free, is) taken =
-    files_told files (visible release files directories) fs (visible_told release files directories)
-    (subst (λ ms. All (IsTakenFrom ms) fs) is taken)

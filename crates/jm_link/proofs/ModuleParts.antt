@@ -35,10 +35,11 @@ use Rattle.jm_relink.proofs.ModuleLaws.{one_content}
 use Rattle.jm_valid.specs.Opened.{Front}
 use Rattle.jm_link.specs.declared.linking.LinkStop.{LinkStop}
 use Rattle.jm_link.specs.declared.linking.LinkStop.TheVariants as stop
-use Rattle.jm_link.specs.ImageLinked.{image_refusal}
-use Rattle.jm_link.specs.ImageParts.{AreInfosRead, info_sizes}
-use Rattle.jm_link.specs.ImageSteps.{HasSize, ShowsIn, ReadsModules}
-use Rattle.jm_link.specs.ImageTaken.{infos_of, is_info, sizes}
+use Rattle.jm_modset.specs.Found.{image_refusal}
+use Rattle.jm_modset.specs.Infos.{AreInfosRead, info_sizes}
+use Rattle.jm_filed.specs.Parts.{IsSizedIn}
+use Rattle.jm_link.specs.ImageSteps.{ShowsIn, ReadsModules}
+use Rattle.jm_modset.specs.Infos.{infos_of, is_info, sizes}
 use Rattle.jm_link.specs.Steps.{stop_of, stop_of_fault}
 use Rattle.jm_link.proofs.InfoLaws.{info_in, info_there, infos_apart, infos_within}
 use Rattle.jm_link.proofs.PartLaws.{beside, content_read, resource_entry, same_content, shown_all, zipped_as, zipped_keys}
@@ -128,7 +129,7 @@ module _ (index : Front) (h : Header) (images : IsIndex index.bytes index.length
           (resource_entry b (info_in b m) info.0)
 
       sized : (b : List ℕ) → IsFiled index told path b → HasSizes b infos
-      sized b filed = all_from_contains (HasSize (map named (entries_of b))) infos (λ p there.
+      sized b filed = all_from_contains (IsSizedIn (map named (entries_of b))) infos (λ p there.
           let from = beside Reads ms infos reads p there in
           let lies = All-contains (EntriesWithin (length b)) ms from.0 (within_in b filed.0) from.1 in (
             content_at b from.0.info,

@@ -1,10 +1,8 @@
 -- Contents that were read as parts of an image's file, side by side with what they were read for.
-use Rattle.std.proofs.Common.{inl, inr, ◌≡◌, ◌≢◌, ◌<◌, ◌+◌, ◌-◌, ℕ, not, List, [], ◌∷◌, ◌++◌, drop, length, map, min, All, rules}
-use Rattle.std.proofs.Common.{AllPairs, Contains, filter, get_or, take, Option, Some, None, Ok, Err, Result, refl, sym, ap}
+use Rattle.std.proofs.Common.{inl, inr, ◌≡◌, ◌≢◌, ◌-◌, ℕ, not, List, [], ◌∷◌, drop, length, map, min, All, rules}
+use Rattle.std.proofs.Common.{AllPairs, Contains, filter, Option, Some, None, Ok, Err, Result, refl, sym, ap}
 use Rattle.std.proofs.Common.{subst, ◌∙◌}
-use Rattle.std.proofs.lemmas.List.{length-drop, length-take, take_more}
-use Rattle.std.proofs.lemmas.List.Sums.{sum_by_push}
-use Rattle.std.proofs.lemmas.Slice.Zip.{all_zipped_more}
+use Rattle.std.proofs.lemmas.List.{length-drop, length-take}
 use Rattle.std.specs.List.{AllZip, zip}
 use Rattle.jm_bytes.proofs.Choice.{same_some}
 use Rattle.jm_bytes.proofs.Members.{all_from_contains, contains_cases, contains_here, contains_later, contains_map}
@@ -31,8 +29,6 @@ use Rattle.jm_reader.specs.Walk.{entries_of, entries_with}
 use Rattle.jm_reader.proofs.WalkLaws.{entries_differ}
 use Rattle.jm_relink.specs.Files.{resources_of}
 use Rattle.jm_relink.proofs.ModuleLaws.{one_content}
-use Rattle.jm_relink.specs.declared.entries.ModuleEntries.{ModuleEntries}
-use Rattle.jm_link.specs.ImageParts.{AreInfosRead, info_sizes}
 
 -- Two lists side by side
 
@@ -149,21 +145,3 @@ module _ (f : List ℕ) (size : ℕ) (h : Header) (index : IsIndex f size h) (b 
 
   pub same_sizes : (read : List Named) → HasSizes b read → HasSizes c read
   same_sizes read sized = λ k d below. let one = sized k d below in same_size _ one.0 one.1 one.2
-
--- Parts that are read one after another
-
--- one descriptor more
-pub info_more : (told now : Option Files) (path : List ℕ) (ms : List ModuleEntries) (i : ℕ) (m : ModuleEntries)
-    (infos new : List (List ℕ)) (text : List ℕ) → i < length ms → m ≡ get_or ms i m → now ≡ told
-    → AreInfosRead told path (take i ms) infos → IsReadAt now path m.info text → new ≡ infos ++ text ∷ [] → AreInfosRead told path (take (i + 1) ms) new
-info_more told now path ms i m infos new text below is same before read put =
-    let one = subst (λ t. IsReadAt t path m.info text) same read in
-    rw (put, take_more ms i m below, sym is)
-    (all_zipped_more (λ (m : ModuleEntries) (info : List ℕ). IsReadAt told path m.info info) (take i ms) infos m text before one)
-
--- and its size
-pub info_size_more : (ms : List ModuleEntries) (i : ℕ) (m : ModuleEntries) → i < length ms → m ≡ get_or ms i m
-    → info_sizes (take (i + 1) ms) ≡ info_sizes (take i ms) + m.info.size
-info_size_more ms i m below is =
-    ap info_sizes (take_more ms i m below ∙ ap (λ n. take i ms ++ n ∷ []) (sym is))
-    ∙ sum_by_push (λ (m : ModuleEntries). m.info.size) (take i ms) m

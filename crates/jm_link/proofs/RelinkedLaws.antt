@@ -1,7 +1,8 @@
--- Relinking an image gives it back.
+-- Relinking: a link of the image that a link made, with all its modules and without plug-ins, comes
+-- to that image.
 use Rattle.std.proofs.Common.{◌≡◌, ◌≢◌, ◌<◌, ◌≤◌, ◌↔◌, ℕ, suc, ◌+◌, Bool, true, false, List, [], ◌∷◌, ◌++◌, rules}
-use Rattle.std.proofs.Common.{append_assoc, length, length-append, map, All, AllPairs, Contains}
-use Rattle.std.proofs.Common.{IsPermutation, Option, Some, None, option_map, slice_get, Result, Ok, Err, refl}
+use Rattle.std.proofs.Common.{append-nil, append_assoc, length, length-append, map, AllPairs, Contains}
+use Rattle.std.proofs.Common.{IsPermutation, Some, None, option_map, slice_get, Result, Ok, refl}
 use Rattle.std.proofs.Common.{sym, ap, subst, ◌∙◌}
 use Rattle.std.proofs.lemmas.Bool.{false≢true}
 use Rattle.std.proofs.lemmas.List.{length-map}
@@ -13,86 +14,40 @@ use Rattle.std.specs.List.{filter_map, flat_map, range_with_len}
 use Rattle.std.specs.Str.{bytes_eq}
 use Rattle.jm_bytes.proofs.Choice.{same_ok}
 use Rattle.jm_bytes.proofs.CheckLaws.{no_fault_all, no_fault_from}
-use Rattle.jm_bytes.proofs.Members.{all_from_contains, any_contains, contains_here, contains_later}
-use Rattle.jm_bytes.proofs.Members.{contains_map, from_any, from_filter_map, from_map}
+use Rattle.jm_bytes.proofs.Members.{all_from_contains, any_contains, contains_filter_map, contains_here, contains_later}
+use Rattle.jm_bytes.proofs.Members.{contains_map, element_at, from_any, from_filter_map, from_map}
 use Rattle.jm_bytes.proofs.SameOrder.{mapped_twice}
-use Rattle.jm_bytes.specs.declared.words.Order.{Order}
 use Rattle.jm_closure.specs.declared.candidate.Candidate.{Candidate}
-use Rattle.jm_closure.specs.declared.fault.CloseFault.{CloseFault}
 use Rattle.jm_closure.specs.Modules as closure
 use Rattle.jm_closure.specs.Refusals.{Closes}
-use Rattle.jm_form.specs.Layout.{Written}
+use Rattle.jm_form.specs.Layout.{Written, names_of}
 use Rattle.jm_form.specs.Validity.{Stands, resources}
+use Rattle.jm_modset.specs.Found.{Finds, Found, image_alone, is_called, reserved, roots_among}
+use Rattle.jm_modset.specs.Found.{Sources}
+use Rattle.jm_modset.specs.Shown.{Shown, candidates_of, gathered, name_of, of_entries}
 use Rattle.jm_names.specs.ComputedFault.{name_fault}
-use Rattle.jm_plugins.specs.declared.chain.BadClass.{BadClass}
-use Rattle.jm_plugins.specs.ComputedPlugins.{apply}
+use Rattle.jm_names.proofs.KeyLaws.{differ_moved}
 use Rattle.jm_plugins.specs.Plugins.{Applies}
 use Rattle.jm_reader.specs.Walk.{entries_with}
 use Rattle.jm_relink.specs.Files.{info_entry, resources_of}
-use Rattle.jm_relink.specs.Modules.{IsVisibleIn, ModulesOf, SeenModule}
+use Rattle.jm_relink.specs.Modules.{ModulesOf, SeenModule}
 use Rattle.jm_relink.proofs.ModuleLaws.{resources_differ}
-use Rattle.jm_relink.proofs.OnceLaws.{modules_once}
-use Rattle.jm_names.proofs.KeyLaws.{differ_moved}
 use Rattle.jm_texts.specs.declared.refusal.Refusal.{Refusal}
 use Rattle.jm_texts.specs.declared.refusal.Refusal.TheVariants as refusal
-use Rattle.jm_link.specs.Chosen.{Chosen, is_called, reserved, roots_among}
-use Rattle.jm_link.specs.ImageLinked.{ImageLinksTo, resources_seen, seen_candidates, seen_resources}
-use Rattle.jm_link.specs.Linked.{IsClosedTo, IsFoundTo, IsGatheredTo, IsLinkedOf, IsPluggedTo, LinkedImage}
-use Rattle.jm_link.specs.Linked.{LinksAmong, PlugsTo, Request, image_with, laid_out, layout_refusal}
-use Rattle.jm_link.specs.Relinked.{Shows, Takes, leaves_order}
-use Rattle.jm_link.specs.Relinked.Source.{Image}
 use Rattle.jm_texts.specs.NameRefusals.{first_bad_name, name_refusal}
-use Rattle.jm_link.proofs.ClosedAgain.{chosen_further, closes_again, found_again, place_again, root_chosen, taken}
-use Rattle.jm_link.proofs.FileLaws.{free_names, got}
+use Rattle.jm_link.specs.Chosen.{Chosen}
+use Rattle.jm_link.specs.Linked.{IsFoundTo, IsGatheredTo, LinkedImage, LinksAmong, LinksFrom, PlugsTo, Request}
+use Rattle.jm_link.specs.Linked.{laid_out, layout_refusal}
+use Rattle.jm_link.specs.Links.{IsLaid}
+use Rattle.jm_link.specs.Relinked.{IsLinkedFrom, Relinks, Takes}
+use Rattle.jm_link.proofs.ClosedAgain.{chosen_further, closes_again, found_again, place_again, root_chosen}
+use Rattle.jm_modset.proofs.ItemLaws.{got}
+use Rattle.jm_modset.proofs.NameLaws.{free_names}
 use Rattle.jm_link.proofs.FileOrder.{IsFirstOrOne}
-use Rattle.jm_link.proofs.KeptLaws.{AreKept, applied}
-use Rattle.jm_link.proofs.OnceLaws.{plugs_computed}
-use Rattle.jm_link.proofs.SeenAgain.{AreOf, kept_of, only_packages, resources_again, see, seen, seen_visible}
-use Rattle.jm_bytes.proofs.Members.{element_at}
-
--- Parts of a link that made an image
-
-pub record IsMade (asked : Request) (found : List Candidate) (gathered : List ℕ → List Written) (image : LinkedImage) : Type 0 where
-  pub free : reserved found ≡ None
-  pub places : List ℕ
-  pub closes : Closes found (roots_among found asked.roots) (Chosen asked.bind found (roots_among found asked.roots)) (Ok places)
-  pub sound : first_bad_name (gathered places) ≡ None
-  pub left : List Written
-  pub plugged : apply asked.release asked.plugins (gathered places) ≡ Ok left
-  pub fits : layout_refusal asked.order left ≡ None
-  pub is : image ≡ image_with asked.order (length places) left
-
-laid_parts : (order : Order) (modules : ℕ) (left : List Written) (o : Option Refusal) (image : LinkedImage)
-    → ◌≡◌ {A = Result LinkedImage Refusal} (Ok image) (laid_out order modules left o) → (o ≡ None) × (image ≡ image_with order modules left)
-laid_parts order modules left None image is = (refl, same_ok {E = Refusal} image (image_with order modules left) is)
-laid_parts order modules left (Some refusal) image is = cc
-
-plugged_parts : (order : Order) (modules : ℕ) (r : Result (List Written) BadClass) (image : LinkedImage)
-    → IsPluggedTo order modules r (Ok image) → (left : List Written) × (r ≡ Ok left) × (layout_refusal order left ≡ None)
-    × (image ≡ image_with order modules left)
-plugged_parts order modules (Ok left) image is = search (rules, laid_parts)
-plugged_parts order modules (Err fault) image is = search (rules)
-
-gathered_parts : (asked : Request) (modules : ℕ) (rs : List Written) (o : Option Refusal) (image : LinkedImage)
-    → IsGatheredTo asked modules rs o (Ok image) → (o ≡ None) × IsPluggedTo asked.order modules (apply asked.release asked.plugins rs)
-    (Ok image)
-gathered_parts asked modules rs None image is = (refl, plugs_computed asked modules rs (Ok image) is)
-gathered_parts asked modules rs (Some refusal) image is = cc
-
-closed_parts : (asked : Request) (gathered : List ℕ → List Written) (closed : Result (List ℕ) CloseFault) (image : LinkedImage)
-    → IsClosedTo asked gathered closed (Ok image) → (places : List ℕ) × (closed ≡ Ok places) × IsGatheredTo asked (length places)
-    (gathered places) (first_bad_name (gathered places)) (Ok image)
-closed_parts asked gathered (Ok places) image is = (places, refl, is)
-closed_parts asked gathered (Err fault) image is = cc
-
-found_parts : (asked : Request) (found : List Candidate) (gathered : List ℕ → List Written) (o : Option Refusal)
-    (image : LinkedImage) → IsFoundTo asked found gathered o (Ok image) → (o ≡ None) × IsLinkedOf asked found gathered (Ok image)
-found_parts asked found gathered None image is = (refl, is)
-found_parts asked found gathered (Some refusal) image is = cc
-
-pub made_parts : (asked : Request) (found : List Candidate) (gathered : List ℕ → List Written) (image : LinkedImage)
-    → LinksAmong asked found gathered (Ok image) → IsMade asked found gathered image
-made_parts asked found gathered image is = search (rules, plugged_parts, gathered_parts, closed_parts, found_parts)
+use Rattle.jm_link.proofs.KeptLaws.{AreKept}
+use Rattle.jm_link.proofs.MadeFrom.{IsMade, IsMadeFrom, left_kept, left_of, linked_laid, made_from, modules_taken, taken_within}
+use Rattle.jm_link.proofs.OnceLaws.{finds_once}
+use Rattle.jm_link.proofs.SeenAgain.{AreOf, only_packages, resources_again, see, seen, seen_visible, shown}
 
 -- What an image holds that stands for resources
 
@@ -165,115 +120,170 @@ count_taken xs (p ∷ places) within =
     let held = element_at xs p (within p (contains_here p places)) in
     rw held.1 (ap suc (count_taken xs places (λ i among. within i (contains_later p places i among))))
 
+-- What is found of an image alone
+
+abbrev found_alone : List Shown → Found
+found_alone ms = record { modules = ms; named = map name_of ms }
+
+alone_finds : (release : ℕ) (b : List ℕ) (ss : List SeenModule) (ms : List Shown) → ModulesOf release b (Ok ss) → map of_entries ss ≡ ms
+    → Finds release (image_alone b) (Ok (found_alone ms))
+alone_finds release b ss ms shows is = (
+  Ok ms,
+  (Ok ss, shows, ap Ok (sym is)),
+  ap (λ ns. Ok (record { modules = ns; named = map name_of ms })) (sym (append-nil ms)),
+)
+
 -- Once more
 
--- an image shows one list of modules
-pub seen_once : (release : ℕ) (b : List ℕ) (ss : List SeenModule) → ModulesOf release b (Ok ss) → (others : List Candidate)
-    → Shows release (Image b) others → others ≡ seen_candidates ss
-seen_once release b ss shows others (ss', shows', is) = search (rules, same_ok, modules_once)
+module _ (b : List ℕ) (source : Sources) (first : Request) (was : IsLinkedFrom source first b) where
+  abbrev image : LinkedImage
+  image = was.image
 
-module _ (b : List ℕ) (first asked : Request) (found : List Candidate) (gathered : List ℕ → List Written) (image : LinkedImage)
-    (made : IsMade first found gathered image) (unordered : All (λ one. leaves_order one ≡ true) first.plugins) (within : (i : ℕ)
-    → Contains made.places i → i < length found) where
+  -- the image that was linked is what the layout of its resources is
+  pub laid : IsLaid first.order (Ok was.image)
+  laid = linked_laid source first image was.stands was.linked
+
+  abbrev from : IsMadeFrom source first image
+  from = made_from source first image was.stands was.linked
+
+  abbrev found : List Candidate
+  found = candidates_of from.found.modules
+
+  abbrev first_roots : List (List ℕ)
+  first_roots = roots_among from.found.named first.roots
+
+  abbrev made : IsMade first first_roots found (gathered from.found.modules) image
+  made = from.made
+
   abbrev Taken : ℕ → Type 0
-  Taken = Chosen first.bind found (roots_among found first.roots)
+  Taken = Chosen first.bind found first_roots
+
+  within : (i : ℕ) → Contains made.places i → i < length found
+  within = taken_within first first_roots found (gathered from.found.modules) image made
 
   abbrev cs : List Candidate
-  cs = taken found Taken made.places made.closes.4 within
+  cs = modules_taken first first_roots found (gathered from.found.modules) image made
 
-  module _ (of : AreOf first.release cs (gathered made.places)) (stands : Stands b made.left) (infos : (c : Candidate) → Contains cs c
-      → (content : List ℕ) × Contains made.left (info_entry (closure.name_of c), content))
-      (rises : first.release ≤ asked.release) where
-    kept : AreKept first.release IsFirstOrOne (gathered made.places) made.left
-    kept = applied first.release IsFirstOrOne first.plugins (gathered made.places) made.left unordered made.plugged
+  takes : (c : Candidate) → Contains cs c → Takes source first (closure.name_of c)
+  takes c there =
+      let at = from_filter_map (slice_get found) made.places c there in
+      (from.found, from.finds, at.0, (made.closes.4.exactly at.0).0 at.1, (c, at.2, refl))
 
-    are : AreOf first.release cs made.left
-    are = kept_of first.release cs (gathered made.places) made.left kept of
+  taken_by : (name : List ℕ) → Takes source first name → (c : Candidate) × Contains cs c × (closure.name_of c ≡ name)
+  taken_by name (others, finds, i, has, named) =
+      let same = same_ok {E = Refusal} others from.found
+      (finds_once first.release source (Ok others) (Ok from.found) finds from.finds) in
+      let (c, here, is) = subst (λ (f : Found). closure.HasName (candidates_of f.modules) i name) same named in
+      let chosen : Taken i =
+      subst (λ (f : Found). Chosen first.bind (candidates_of f.modules) (roots_among f.named first.roots) i) same has in
+      (c, contains_filter_map (slice_get found) made.places i c ((made.closes.4.exactly i).1 chosen) here, is)
 
-    apart : AllPairs (λ (e f : Written). e.0 ≢ f.0) made.left
-    apart = names_apart b made.left stands
+  left_is : image.resources ≡ made.left
+  left_is = ap (λ (x : LinkedImage). x.resources) made.is
 
-    abbrev ss : List SeenModule
-    ss = seen first.release cs made.left are apart
+  stands : Stands b made.left
+  stands = subst (Stands b) left_is (subst (λ x. Stands x image.resources) (sym was.made) laid.stands)
 
-    abbrev again : Candidate → Candidate
-    again c = (see first.release cs made.left are apart c).candidate
+  infos : (c : Candidate) → Contains cs c → (content : List ℕ) × Contains made.left (info_entry (closure.name_of c), content)
+  infos c there =
+      let named = subst (λ (rs : List Written). Contains (names_of rs) (info_entry (closure.name_of c))) left_is
+      (was.infos (closure.name_of c) (takes c there)) in
+      let has = from_map (λ (r : Written). r.0) made.left (info_entry (closure.name_of c)) named in
+      (has.0.1, subst (λ n. Contains made.left (n, has.0.1)) has.2 has.1)
 
-    abbrev others : List Candidate
-    others = found_again found Taken made.places made.closes.4 within again (λ c. refl) (only_packages first.release cs made.left are apart)
+  are : AreOf first.release cs made.left
+  are = left_of source first image from was.unordered
 
-    same_found : seen_candidates ss ≡ others
-    same_found = mapped_twice (λ (s : SeenModule). s.candidate) (see first.release cs made.left are apart) cs
+  apart : AllPairs (λ (e f : Written). e.0 ≢ f.0) made.left
+  apart = names_apart b made.left stands
 
-    abbrev all : List ℕ
-    all = range_with_len 0 (length others)
+  -- The modules that are seen again
 
-    infos_held : IsVisibleIn asked.release (resources_of b) ss
-    infos_held = seen_visible first.release cs made.left are apart asked.release rises infos (resources_of b) (held b made.left stands)
+  abbrev again : Candidate → Candidate
+  again c = (see first.release cs made.left are apart c).candidate
 
-    modules_held : ModulesOf asked.release b (Ok ss)
+  abbrev ms : List Shown
+  ms = shown first.release cs made.left are apart
+
+  abbrev others : List Candidate
+  others = found_again found Taken made.places made.closes.4 within again (λ c. refl) (only_packages first.release cs made.left are apart)
+
+  same_found : candidates_of ms ≡ others
+  same_found = mapped_twice (λ (m : Shown). m.candidate) (λ c. of_entries (see first.release cs made.left are apart c)) cs
+
+  abbrev all : List ℕ
+  all = range_with_len 0 (length others)
+
+  free : reserved others ≡ None
+  free = free_again found others
+      (λ c there.
+      let from = from_map again cs c there in
+      let at = from_filter_map (slice_get found) made.places from.0 from.1 in
+      (from.0, got found at.0 from.0 at.2, ap closure.name_of from.2)) made.free
+
+  gathered_again : gathered ms all ≡ made.left
+  gathered_again =
+      ap (λ n. gathered ms (range_with_len 0 n))
+      (length-map cs again ∙ sym (length-map cs (λ c. of_entries (see first.release cs made.left are apart c))))
+      ∙ ap (flat_map (λ m. m.resources)) (all_from [] ms) ∙ resources_again first.release cs made.left are apart
+
+  count : length all ≡ length made.places
+  count = length-range_with_len 0 (length others) ∙ length-map cs again ∙ count_taken found made.places within
+
+  module _ (asked : Request) (rises : first.release ≤ asked.release) where
+    modules_held : ModulesOf asked.release b (Ok (seen first.release cs made.left are apart))
     unfolding ModulesOf
-    modules_held = infos_held
+    modules_held = seen_visible first.release cs made.left are apart asked.release rises infos (resources_of b) (held b made.left stands)
 
-    shown : Shows asked.release (Image b) others
-    shown = (ss, modules_held, sym same_found)
+    finds : Finds asked.release (image_alone b) (Ok (found_alone ms))
+    finds = alone_finds asked.release b (seen first.release cs made.left are apart) ms modules_held
+        (mapped_twice of_entries (see first.release cs made.left are apart) cs)
 
     abbrev roots : List (List ℕ)
-    roots = roots_among others asked.roots
+    roots = roots_among (map name_of ms) asked.roots
 
-    -- modules whose names are roots are taken
-    pub roots_taken : ((found : List Candidate) → Shows asked.release (Image b) found → (c : Candidate) → Contains cs c
-        → Contains (roots_among found asked.roots) (closure.name_of c)) → (c : Candidate) → Contains cs c
-        → Takes (Image b) asked (closure.name_of c)
-    roots_taken rooted c there =
+    abbrev Again : ℕ → Type 0
+    Again = Chosen asked.bind others roots
+
+    -- where the names of all modules that were taken are roots, all are taken
+    pub roots_take : ((found : Found) → Finds asked.release (image_alone b) (Ok found) → (name : List ℕ) → Takes source first name
+        → Contains (roots_among found.named asked.roots) name) → (name : List ℕ) → Takes source first name
+        → Takes (image_alone b) asked name
+    roots_take rooted name has =
+        let (c, there, is) = taken_by name has in
         let at = place_again found Taken made.places made.closes.4 within again (λ c. refl) (only_packages first.release cs made.left
-        are apart) c there in (
-          others,
-          shown,
+        are apart) c there in
+        let named = subst (closure.HasName others at.0) is at.1 in (
+          found_alone ms,
+          finds,
           at.0,
-          root_chosen asked.bind others roots at.0 (closure.name_of c, rooted others shown c there, at.1),
-          at.1,
+          subst (λ fs. Chosen asked.bind fs roots at.0) (sym same_found) (root_chosen asked.bind others roots at.0 (
+            name,
+            rooted
+                (found_alone ms) finds name has,
+            named,
+          )),
+          subst (λ fs. closure.HasName fs at.0 name) (sym same_found) named,
         )
 
-    free : reserved others ≡ None
-    free = free_again found others
-        (λ c there.
-        let from = from_map again cs c there in
-        let at = from_filter_map (slice_get found) made.places from.0 from.1 in
-        (from.0, got found at.0 from.0 at.2, ap closure.name_of from.2)) made.free
+    -- a module that is taken is chosen
+    chosen_too : (name : List ℕ) → Takes (image_alone b) asked name → (k : ℕ) × Again k × closure.HasName others k name
+    chosen_too name (alone, finds', k, chosen, named) =
+        let same = same_ok {E = Refusal} alone (found_alone ms) (finds_once asked.release (image_alone b) (Ok alone) (Ok (found_alone ms))
+        finds' finds) in
+        let here = subst (λ (f : Found). Chosen asked.bind (candidates_of f.modules) (roots_among f.named asked.roots) k) same chosen in
+        let is = subst (λ (f : Found). closure.HasName (candidates_of f.modules) k name) same named in
+        (k, subst (λ fs. Chosen asked.bind fs roots k) same_found here, subst (λ fs. closure.HasName fs k name) same_found is)
 
-    long : length ss ≡ length others
-    long = length-map cs (see first.release cs made.left are apart) ∙ sym (length-map cs again)
-
-    gathered_again : resources_seen ss all ≡ made.left
-    gathered_again = ap (λ n. resources_seen ss (range_with_len 0 n)) (sym long) ∙ ap (flat_map seen_resources) (all_from [] ss)
-        ∙ resources_again first.release cs made.left are apart
-
-    count : length all ≡ length made.places
-    count = length-range_with_len 0 (length others) ∙ length-map cs again ∙ count_taken found made.places within
-
-    module _ (every : (c : Candidate) → Contains cs c → Takes (Image b) asked (closure.name_of c)) (only : (shown : List Candidate)
-        → Shows asked.release (Image b) shown → (name : List ℕ) → Contains (roots_among shown asked.roots) name → (c : Candidate)
-        × Contains cs c × (closure.name_of c ≡ name)) (order : asked.order ≡ first.order) (plugins : asked.plugins ≡ []) where
-      -- each module that was taken is chosen
-      chosen_too : (c : Candidate) → Contains cs c → (k : ℕ) × Chosen asked.bind others roots k
-          × closure.HasName others k (closure.name_of c)
-      chosen_too c there = go (every c there)
-        where
-          go : Takes (Image b) asked (closure.name_of c) → (k : ℕ) × Chosen asked.bind others roots k
-              × closure.HasName others k (closure.name_of c)
-          go (others', shows, k, chosen, named) =
-              let same : others' ≡ others = seen_once asked.release b ss modules_held others' shows ∙ same_found in (
-                k,
-                subst (λ fs. Chosen asked.bind fs (roots_among fs asked.roots) k) same chosen,
-                subst (λ fs. closure.HasName fs k (closure.name_of c)) same named,
-              )
-
-      closes : Closes others roots (Chosen asked.bind others roots) (Ok all)
+    module _ (every : (name : List ℕ) → Takes source first name → Takes (image_alone b) asked name)
+        (only : (name : List ℕ) → Contains roots name → Takes source first name) (order : asked.order ≡ first.order)
+        (plugins : asked.plugins ≡ []) where
+      closes : Closes others roots Again (Ok all)
       closes =
           closes_again found Taken made.places made.closes.4 within again (λ c. refl) (only_packages first.release cs made.left are apart)
-          roots asked.bind chosen_too (only others shown) made.closes.1 made.closes.2 made.closes.3
-          (λ i j has requires. chosen_further first.bind found (roots_among found first.roots) i j has requires)
+          roots asked.bind (λ c there. chosen_too (closure.name_of c) (every (closure.name_of c) (takes c there)))
+          (λ name asks. taken_by name (only name asks)) made.closes.1 made.closes.2 made.closes.3
+          (λ i j has requires. chosen_further first.bind found first_roots i j has requires)
 
       laid_again : ◌≡◌ {A = Result LinkedImage Refusal} (Ok image) (laid_out asked.order (length all) made.left
           (layout_refusal asked.order made.left))
@@ -286,16 +296,26 @@ module _ (b : List ℕ) (first asked : Request) (found : List Candidate) (gather
       plugged_again : PlugsTo asked (length all) made.left (Ok image)
       plugged_again = (Ok made.left, subst (λ ps. Applies asked.release ps made.left (Ok made.left)) (sym plugins) refl, laid_again)
 
-      gathered_to : IsGatheredTo asked (length all) (resources_seen ss all) (first_bad_name (resources_seen ss all)) (Ok image)
+      gathered_to : IsGatheredTo asked (length all) (gathered ms all) (first_bad_name (gathered ms all)) (Ok image)
       gathered_to =
           subst (λ rs. IsGatheredTo asked (length all) rs (first_bad_name rs) (Ok image)) (sym gathered_again)
           (subst (λ o. IsGatheredTo asked (length all) made.left o (Ok image))
-          (sym (sound_again first.release (gathered made.places) made.left kept made.sound)) plugged_again)
+          (sym (sound_again first.release (gathered from.found.modules made.places) made.left (left_kept source first image from was.unordered) made.sound)) plugged_again)
 
-      links_again : LinksAmong asked (seen_candidates ss) (resources_seen ss) (Ok image)
+      links_again : LinksAmong asked roots (candidates_of ms) (gathered ms) (Ok image)
       links_again =
-          subst (λ fs. LinksAmong asked fs (resources_seen ss) (Ok image)) (sym same_found)
-          (subst (λ o. IsFoundTo asked others (resources_seen ss) o (Ok image)) (sym free) (Ok all, closes, gathered_to))
+          subst (λ fs. LinksAmong asked roots fs (gathered ms) (Ok image)) (sym same_found)
+          (subst (λ o. IsFoundTo asked roots others (gathered ms) o (Ok image)) (sym free) (Ok all, closes, gathered_to))
 
-      pub links_to : ImageLinksTo b asked (Ok image)
-      links_to = (Ok ss, modules_held, links_again)
+      links_to : LinksFrom (image_alone b) asked (Ok image)
+      links_to = (Ok (found_alone ms), finds, links_again)
+
+-- The link comes to the same image
+
+pub comes_again : (b : List ℕ) (asked : Request) (relinks : Relinks b asked) → LinksFrom (image_alone b) asked (Ok relinks.was.image)
+comes_again b asked relinks =
+    let source = relinks.source in
+    let first = relinks.first in
+    let was = relinks.was in
+    links_to b source first was asked relinks.release relinks.takes
+    (relinks.roots (found_alone (ms b source first was)) (finds b source first was asked relinks.release)) relinks.order relinks.plugins

@@ -1,7 +1,8 @@
 -- The modules that the resources of some modules show, where the descriptor of each stands among
 -- them: these modules, with the same descriptors, and only packages that they had.
 use Rattle.std.proofs.Common.{◌≡◌, ◌≢◌, ◌≤◌, ◌↔◌, inl, inr, ℕ, true, false, cond, List, map, All, AllPairs, rules}
-use Rattle.std.proofs.Common.{Contains, Option, Some, None, Ok, refl, sym, ap, subst, ◌∙◌}
+use Rattle.std.proofs.Common.{Contains, Option, Some, None, refl, sym, ap, subst, ◌∙◌}
+use Rattle.std.proofs.lemmas.List.Elements.{All-map}
 use Rattle.std.proofs.lemmas.Slice.Eq.{bytes_eq-Decides}
 use Rattle.std.specs.List.{filter_map, flat_map, list_any}
 use Rattle.std.specs.Prelude.{IsTrue}
@@ -24,32 +25,28 @@ use Rattle.jm_relink.specs.Files.{file_name, info_entry}
 use Rattle.jm_names.specs.ByName.{Named, RisesByName}
 use Rattle.jm_relink.specs.Gathering.{resource_of}
 use Rattle.jm_relink.specs.Modules.{IsSeenIn, IsVisibleIn, SeenModule, name_of}
+use Rattle.jm_relink.proofs.AskedLaws.{Before}
 use Rattle.jm_relink.proofs.ListLaws.{one_of}
 use Rattle.jm_relink.proofs.NameLaws.{names_tell}
 use Rattle.jm_bytes.proofs.ByteOrderLaws.{before_apart}
-use Rattle.jm_link.specs.ImageLinked.{seen_resources}
-use Rattle.jm_link.proofs.FileOrder.{IsFirst, IsFirstOrOne, modules_first, never_both, pairs_joined, paths_first}
+use Rattle.jm_modset.specs.Shown.{Shown, of_entries}
+use Rattle.jm_link.proofs.FileOrder.{AreNamed, IsFirst, IsFirstOrOne, Rises, entries_named, entries_rise, never_both, pairs_shown}
 use Rattle.jm_link.proofs.KeptLaws.{AreKept}
 use Rattle.jm_link.proofs.SaidLaws.{Says, says_info, says_later}
 
-abbrev pub Before : Candidate → Candidate → Type 0
-Before c d = is_before (closure.name_of c) (closure.name_of d) ≡ true
-
--- a resource of one of some modules, which has the package of the resource; that which makes the
--- module says its descriptor, as a class of a release
-pub record IsOf (release : ℕ) (cs : List Candidate) (r : Written) : Type 0 where
-  pub candidate : Candidate
+-- a resource of a module, which has the package of the resource; that which makes the module says
+-- its descriptor, as a class of a release
+pub record IsOf (release : ℕ) (c : Candidate) (r : Written) : Type 0 where
   pub path : List ℕ
-  pub among : Contains cs candidate
-  pub name : r.0 ≡ file_name (closure.name_of candidate) path
-  pub has_package : (shared : List ℕ) → named_package r.0 ≡ Some shared → Contains candidate.packages shared
-  pub says : path ≡ info_name → Says release r.1 candidate.descriptor
+  pub name : r.0 ≡ file_name (closure.name_of c) path
+  pub has_package : (shared : List ℕ) → named_package r.0 ≡ Some shared → Contains c.packages shared
+  pub says : path ≡ info_name → Says release r.1 c.descriptor
 
 -- resources of some modules, by module and then by path
 pub record AreOf (release : ℕ) (cs : List Candidate) (rs : List Written) : Type 0 where
   pub rising : AllPairs Before cs
   pub whole : (c : Candidate) → Contains cs c → list_any is_slash (closure.name_of c) ≡ false
-  pub each : (r : Written) → Contains rs r → IsOf release cs r
+  pub each : (r : Written) → Contains rs r → (c : Candidate) × Contains cs c × IsOf release c r
   pub order : AllPairs (λ (e f : Written). IsFirstOrOne e.0 f.0) rs
 
 -- what plug-ins leave of them
@@ -60,17 +57,18 @@ kept_of release cs old new kept are = record {
   whole = are.whole;
   each = λ r there.
       let one = kept.each r there in
-      let of = are.each one.was one.there in
-      record {
-        candidate = of.candidate;
-        path = of.path;
-        among = of.among;
-        name = sym one.name ∙ of.name;
-        has_package = λ shared is. of.has_package shared (ap named_package one.name ∙ is);
-        says = λ is.
-            let placed = ap path_of of.name ∙ path_again (closure.name_of of.candidate) of.path (are.whole of.candidate of.among) in
-            one.says (placed ∙ is) of.candidate.descriptor (of.says is);
-      };
+      let (c, among, of) = are.each one.was one.there in (
+        c,
+        among,
+        record {
+          path = of.path;
+          name = sym one.name ∙ of.name;
+          has_package = λ shared is. of.has_package shared (ap named_package one.name ∙ is);
+          says = λ is.
+              let placed = ap path_of of.name ∙ path_again (closure.name_of c) of.path (are.whole c among) in
+              one.says (placed ∙ is) c.descriptor (of.says is);
+        },
+      );
   order = kept.order are.order;
 }
 
@@ -80,17 +78,14 @@ module _ (release : ℕ) (cs : List Candidate) (rs : List Written) (are : AreOf 
   strict i j d before inside = are.order i j d before inside (differ i j d before inside)
 
   -- a resource with the name of a module's file is that module's
-  pub own : (c : Candidate) → Contains cs c → (r : Written) → Contains rs r → (path : List ℕ) → r.0 ≡ file_name (closure.name_of c)
-      path → (of : IsOf release cs r) × (of.candidate ≡ c) × (of.path ≡ path)
+  own : (c : Candidate) → Contains cs c → (r : Written) → Contains rs r → (path : List ℕ) → r.0 ≡ file_name (closure.name_of c) path
+      → (of : IsOf release c r) × (of.path ≡ path)
   own c there r among path is =
-      let of = are.each r among in
-      let names = names_tell (closure.name_of of.candidate) (closure.name_of c) of.path path (are.whole of.candidate of.among)
-      (are.whole c there) (sym of.name ∙ is) in (
-        of,
-        one_of closure.name_of cs of.candidate c (pairs_weaker Before (λ a b. closure.name_of a ≢ closure.name_of b)
-            (λ a b before. before_apart (closure.name_of a) (closure.name_of b) before) cs are.rising) of.among there names.0,
-        names.1,
-      )
+      let (d, too, of) = are.each r among in
+      let names = names_tell (closure.name_of d) (closure.name_of c) of.path path (are.whole d too) (are.whole c there) (sym of.name ∙ is) in
+      let same = one_of closure.name_of cs d c (pairs_weaker Before (λ a b. closure.name_of a ≢ closure.name_of b)
+      (λ a b before. before_apart (closure.name_of a) (closure.name_of b) before) cs are.rising) too there names.0 in
+      subst (λ e. (o : IsOf release e r) × (o.path ≡ path)) same (of, names.1)
 
   -- The files of a module
 
@@ -103,21 +98,22 @@ module _ (release : ℕ) (cs : List Candidate) (rs : List Written) (are : AreOf 
   file_is : (m : List ℕ) (r : Written) (f : Named) → file_in m r ≡ Some f → (module_of r.0 ≡ m) × ((path_of r.0, r.1) ≡ f)
   file_is m r f is = search (rules, bytes_eq-Decides, chosen, same_some)
 
+  -- its name has its module and its path
+  parts : (r : Written) → Contains rs r → r.0 ≡ file_name (module_of r.0) (path_of r.0)
+  parts r there =
+      let (c, among, of) = are.each r there in
+      let whole = are.whole c among in
+      subst (λ n. n ≡ file_name (module_of n) (path_of n)) (sym of.name)
+      (rw (module_again (closure.name_of c) of.path whole, path_again (closure.name_of c) of.path whole) refl)
+
   files_from : (c : Candidate) (path content : List ℕ) → Contains (files_of c) (path, content)
       → Contains rs (file_name (closure.name_of c) path, content)
   files_from c path content there =
       let from = from_filter_map (file_in (closure.name_of c)) rs (path, content) there in
       let r = from.0 in
       let is = file_is (closure.name_of c) r (path, content) from.2 in
-      let of = are.each r from.1 in
-      let whole = are.whole of.candidate of.among in
-      let named : closure.name_of of.candidate ≡ closure.name_of c = sym (module_again (closure.name_of of.candidate) of.path whole)
-      ∙ sym (ap module_of of.name) ∙ is.0 in
-      let placed : of.path ≡ path = sym (path_again (closure.name_of of.candidate) of.path whole) ∙ sym (ap path_of of.name)
-      ∙ ap (λ (f : Named). f.0) is.1 in
-      let name : r.0 ≡ file_name (closure.name_of c) path = of.name ∙ ap (λ n. file_name n of.path) named
-      ∙ ap (file_name (closure.name_of c)) placed in
-      subst (Contains rs) (ap (λ n. (n, r.1)) name ∙ ap (λ (f : Named). (file_name (closure.name_of c) path, f.1)) is.1) from.1
+      subst (Contains rs) (ap (λ n. (n, r.1)) (parts r from.1 ∙ ap (λ m. file_name m (path_of r.0)) is.0)
+      ∙ ap (λ (f : Named). (file_name (closure.name_of c) f.0, f.1)) is.1) from.1
 
   files_there : (c : Candidate) → Contains cs c → (path content : List ℕ)
       → Contains rs (file_name (closure.name_of c) path, content) → Contains (files_of c) (path, content)
@@ -154,6 +150,13 @@ module _ (release : ℕ) (cs : List Candidate) (rs : List Written) (are : AreOf 
   abbrev pub seen : List SeenModule
   seen = map see cs
 
+  -- the same as a link finds it
+  abbrev see_shown : Candidate → Shown
+  see_shown c = of_entries (see c)
+
+  abbrev pub shown : List Shown
+  shown = map see_shown cs
+
   -- its packages are packages of the module
   pub only_packages : (c : Candidate) → Contains cs c → (shared : List ℕ) → Contains (see c).candidate.packages shared
       → Contains c.packages shared
@@ -165,66 +168,39 @@ module _ (release : ℕ) (cs : List Candidate) (rs : List Written) (are : AreOf 
       let file = from_map (λ (f : Named). file_name (closure.name_of c) f.0) (files_of c) from.0 from.1 in
       let r = files_from c file.0.0 file.0.1 file.1 in
       let of = own c among (file_name (closure.name_of c) file.0.0, file.0.1) r file.0.0 refl in
-      subst (λ (d : Candidate). Contains d.packages shared) of.1 (of.0.has_package shared (ap named_package file.2 ∙ from.2))
+      of.0.has_package shared (ap named_package file.2 ∙ from.2)
 
   -- Their resources, module by module
 
   abbrev AreFirst : Written → Written → Type 0
   AreFirst e f = IsFirst e.0 f.0
 
-  abbrev Mine : SeenModule → Type 0
-  Mine s = (c : Candidate) × Contains cs c × (see c ≡ s)
-
-  all_mine : All Mine seen
-  all_mine = all_from_contains Mine seen (λ s there. from_map see cs s there)
-
-  pub seen_rise : AllPairs (λ (s t : SeenModule). is_before (name_of s) (name_of t) ≡ true) seen
-  seen_rise = pairs_map (λ (s t : SeenModule). is_before (name_of s) (name_of t) ≡ true) see cs are.rising
-
-  mine_whole : (s : SeenModule) → Mine s → list_any is_slash (name_of s) ≡ false
-  mine_whole s (c, among, is) = subst (λ (t : SeenModule). list_any is_slash (name_of t) ≡ false) is (are.whole c among)
-
-  mine_rise : (s : SeenModule) → Mine s → RisesByName s.files
-  mine_rise s (c, among, is) = subst (λ (t : SeenModule). RisesByName t.files) is (files_rise c)
-
-  joined_strict : AllPairs AreFirst (flat_map seen_resources seen)
+  joined_strict : AllPairs AreFirst (flat_map (λ m. m.resources) shown)
   joined_strict =
-      pairs_joined Mine (λ (s t : SeenModule). is_before (name_of s) (name_of t) ≡ true) AreFirst seen_resources
-      (λ s mine.
-      pairs_map AreFirst (resource_of (name_of s)) s.files
-      (pairs_weaker (λ (e f : Named). is_before e.0 f.0 ≡ true) (λ e f. AreFirst (resource_of (name_of s) e) (resource_of (name_of s) f))
-      (λ e f before. paths_first (name_of s) (name_of s) e.0 f.0 (mine_whole s mine) (mine_whole s mine) refl before)
-      s.files (mine_rise s mine)))
-      (λ s t one other before a b there too.
-      let first = from_map (resource_of (name_of s)) s.files a there in
-      let second = from_map (resource_of (name_of t)) t.files b too in
-      subst (λ (x : Written). AreFirst x b) first.2 (subst (AreFirst (resource_of (name_of s) first.0)) second.2
-      (modules_first (name_of s) (name_of t) first.0.0 second.0.0 (mine_whole s one) (mine_whole t other) before)))
-      seen all_mine seen_rise
+      pairs_shown AreFirst (λ e f first. first) shown
+      (each (λ m. AreNamed m) (λ c among. entries_named (see c) (are.whole c among)))
+      (each (λ m. AllPairs AreFirst m.resources) (λ c among. entries_rise (see c) (are.whole c among) (files_rise c)))
+      (pairs_map Rises see_shown cs are.rising)
+    where
+      each : (P : Shown → Type 0) → ((c : Candidate) → Contains cs c → P (see_shown c)) → All P shown
+      each P holds = All-map P see_shown cs (all_from_contains (λ c. P (see_shown c)) cs holds)
 
   -- they are the resources, in their order
-  pub resources_again : flat_map seen_resources seen ≡ rs
+  pub resources_again : flat_map (λ m. m.resources) shown ≡ rs
   resources_again =
-      same_order AreFirst (λ e f one other. never_both e.0 f.0 one other) (flat_map seen_resources seen) rs joined_strict strict
+      same_order AreFirst (λ e f one other. never_both e.0 f.0 one other) (flat_map (λ m. m.resources) shown) rs joined_strict strict
       (λ r there.
-      let from = from_flat_map seen_resources seen r there in
-      let mine = from_map see cs from.0 from.1 in
-      let file = from_map (resource_of (name_of from.0)) from.0.files r from.2 in
-      back mine.0 from.0 mine.2 r file.0 file.1 file.2)
+      let (m, among, has) = from_flat_map (λ m. m.resources) shown r there in
+      let (c, too, is) = from_map see_shown cs m among in
+      let (f, mine, same) = from_map (resource_of (closure.name_of c)) (files_of c) r (subst (λ k. Contains k.resources r) (sym is) has) in
+      subst (Contains rs) same (files_from c f.0 f.1 mine))
       (λ r there.
-      let of = are.each r there in
-      let c = of.candidate in
+      let (c, among, of) = are.each r there in
       let same : (file_name (closure.name_of c) of.path, r.1) ≡ r = ap (λ n. (n, r.1)) (sym of.name) in
-      let file = files_there c of.among of.path r.1 (subst (Contains rs) (sym same) there) in
-      subst (Contains (flat_map seen_resources seen)) same
-      (contains_flat_map seen_resources seen (see c) (file_name (closure.name_of c) of.path, r.1) (contains_map see cs c of.among)
-      (contains_map (resource_of (closure.name_of c)) (files_of c) (of.path, r.1) file)))
-    where
-      back : (c : Candidate) (s : SeenModule) → see c ≡ s → (r : Written) (f : Named) → Contains s.files f
-          → resource_of (name_of s) f ≡ r → Contains rs r
-      back c s is r f there made =
-          subst (Contains rs) (ap (λ (t : SeenModule). resource_of (name_of t) f) is ∙ made)
-          (files_from c f.0 f.1 (subst (λ (t : SeenModule). Contains t.files f) (sym is) there))
+      let file = files_there c among of.path r.1 (subst (Contains rs) (sym same) there) in
+      subst (Contains (flat_map (λ m. m.resources) shown)) same
+      (contains_flat_map (λ m. m.resources) shown (see_shown c) (file_name (closure.name_of c) of.path, r.1) (contains_map see_shown cs c
+      among) (contains_map (resource_of (closure.name_of c)) (files_of c) (of.path, r.1) file)))
 
   -- In an image, for this release or a later one
 
@@ -235,11 +211,11 @@ module _ (release : ℕ) (cs : List Candidate) (rs : List Written) (are : AreOf 
     seen_is c among =
         let info = infos c among in
         let of = own c among (info_entry (closure.name_of c), info.0) info.1 info_name refl in
-        let says = says_later release later rises info.0 of.0.candidate.descriptor (of.0.says of.2) in
+        let says = says_later release later rises info.0 c.descriptor (of.0.says of.1) in
         record {
           content = info.0;
           info = record { whole = are.whole c among; there = (same (info_entry (closure.name_of c), info.0)).1 info.1 };
-          says = says_info later info.0 of.0.candidate.descriptor says ∙ ap (λ (d : Candidate). Ok d.descriptor) of.1;
+          says = says_info later info.0 c.descriptor says;
           packages = refl;
           files = record {
             rising = files_rise c;
@@ -252,13 +228,12 @@ module _ (release : ℕ) (cs : List Candidate) (rs : List Written) (are : AreOf 
 
     pub seen_visible : IsVisibleIn later held seen
     seen_visible = record {
-      rising = seen_rise;
+      rising = pairs_map (λ (s t : SeenModule). is_before (name_of s) (name_of t) ≡ true) see cs are.rising;
       each = all_from_contains (IsSeenIn later held) seen (λ s there.
           let mine = from_map see cs s there in
           subst (IsSeenIn later held) mine.2 (seen_is mine.0 mine.1));
       all = λ m content info.
-          let of = are.each (info_entry m, content) ((same (info_entry m, content)).0 info.there) in
-          let names = names_tell m (closure.name_of of.candidate) info_name of.path info.whole (are.whole of.candidate of.among) of.name in
-          subst (Contains (map name_of seen)) (sym names.0) (contains_map name_of seen
-          (see of.candidate) (contains_map see cs of.candidate of.among));
+          let (c, among, of) = are.each (info_entry m, content) ((same (info_entry m, content)).0 info.there) in
+          let names = names_tell m (closure.name_of c) info_name of.path info.whole (are.whole c among) of.name in
+          subst (Contains (map name_of seen)) (sym names.0) (contains_map name_of seen (see c) (contains_map see cs c among));
     }

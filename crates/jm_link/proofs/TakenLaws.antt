@@ -10,7 +10,7 @@ use Rattle.jm_bytes.proofs.Pairs.{pairs_head, pairs_tail}
 use Rattle.jm_names.specs.Names.{is_slash}
 use Rattle.jm_relink.specs.Files.{file_name}
 use Rattle.jm_relink.proofs.NameLaws.{parts_of_file}
-use Rattle.jm_link.specs.ImageTaken.{has_info_path, is_info}
+use Rattle.jm_modset.specs.Infos.{has_info_path, is_info}
 
 -- elements of a list, each of them once, have together at most the sum of all
 pub sum_among : {X : Type 0} (f : X → ℕ) (xs ys : List X) → AllPairs (λ x y. x ≢ y) xs

@@ -6,8 +6,8 @@ use Rattle.jm_closure.specs.declared.fault.CloseFault.{CloseFault}
 use Rattle.jm_closure.specs.Modules.{Reached}
 use Rattle.jm_closure.specs.Refusals.{Closes}
 use Rattle.jm_texts.specs.declared.refusal.Refusal.{Refusal}
+use Rattle.jm_modset.specs.Found.{reserved}
 use Rattle.jm_link.specs.declared.linking.LinkStop.{LinkStop}
-use Rattle.jm_link.specs.Chosen.{reserved, roots_among}
 use Rattle.jm_link.specs.Linked.{closing_refusal}
 use Rattle.jm_link.specs.Steps.{StepGives}
 
@@ -27,18 +27,10 @@ abbrev pub ClosesFrom : List Candidate → List (List ℕ) → Bool → Result (
 ClosesFrom found roots bind =
     StepGives (λ places. ClosesWith bind found roots (Ok places)) (IsUnclosed found roots bind) ⊥ ⊥
 
--- the closure of the roots that are asked for is refused
-pub record IsRefusedAmong (found : List Candidate) (asked : List (List ℕ)) (bind : Bool)
-    (given : Refusal) : Type 0 where
-  pub fault : CloseFault
-  pub free : reserved found ≡ None
-  pub closes : ClosesWith bind found (roots_among found asked) (Err fault)
-  pub refusal : given ≡ closing_refusal fault
-
 -- by the answer: the places of the closure; a reserved name, or the refusal of the closure; no
 -- memory
 abbrev pub ClosesAmong : List Candidate → List (List ℕ) → Bool → Result (List ℕ) LinkStop → Type 0
-ClosesAmong found asked bind =
-    StepGives (λ places. (reserved found ≡ None)
-    × ClosesWith bind found (roots_among found asked) (Ok places))
-    (λ given. (reserved found ≡ Some given) ⊎ IsRefusedAmong found asked bind given) ⊥ ⊥
+ClosesAmong found roots bind =
+    StepGives (λ places. (reserved found ≡ None) × ClosesWith bind found roots (Ok places))
+    (λ given. (reserved found ≡ Some given)
+    ⊎ ((reserved found ≡ None) × IsUnclosed found roots bind given)) ⊥ ⊥

@@ -12,18 +12,15 @@ use Rattle.jm_closure.specs.Refusals.{Closes}
 use Rattle.jm_form.specs.Greedy.{GreedyTable}
 use Rattle.jm_form.specs.Layout.{Written, all_sized, layout, layout_table, layout_with, names_of}
 use Rattle.jm_form.specs.Trees.{first_clash}
-use Rattle.jm_modpath.specs.declared.refusal.PathRefusal.{PathRefusal}
-use Rattle.jm_modpath.specs.declared.refusal.PathRefusal.TheVariants as path
-use Rattle.jm_modpath.specs.Modules.{candidates, path_refusal, visible}
-use Rattle.jm_outside.specs.Files.{Files}
 use Rattle.jm_words.specs.declared.tasks.Plugin.{Plugin}
 use Rattle.jm_plugins.specs.declared.chain.BadClass.{BadClass}
 use Rattle.jm_plugins.specs.Plugins.{Applies}
 use Rattle.jm_writer.specs.Drafts.{entry_limit, image_limit, large_number}
 use Rattle.jm_texts.specs.declared.refusal.Refusal.{Refusal}
 use Rattle.jm_texts.specs.declared.refusal.Refusal.TheVariants as refusal
-use Rattle.jm_link.specs.Chosen.{Chosen, reserved, roots_among}
-use Rattle.jm_link.specs.Resources.{resources_in}
+use Rattle.jm_modset.specs.Found.{Finds, Found, Sources, reserved, roots_among}
+use Rattle.jm_modset.specs.Shown.{candidates_of, gathered}
+use Rattle.jm_link.specs.Chosen.{Chosen}
 use Rattle.jm_texts.specs.NameRefusals.{first_bad_name}
 
 -- what is asked for, whatever shows the modules: the release of Java SE up to which classes are
@@ -124,43 +121,35 @@ IsClosedTo asked resources (Ok places) result =
 IsClosedTo asked resources (Err fault) result = result ≡ Err (closing_refusal fault)
 
 -- what the closure of the roots among the modules found comes to
-abbrev pub IsLinkedOf : Request → List Candidate → (List ℕ → List Written)
+abbrev pub IsLinkedOf : Request → List (List ℕ) → List Candidate → (List ℕ → List Written)
     → Result LinkedImage Refusal → Type 0
-IsLinkedOf asked found resources result =
+IsLinkedOf asked roots found resources result =
     (closed : Result (List ℕ) CloseFault)
-    × Closes found (roots_among found asked.roots)
-    (Chosen asked.bind found (roots_among found asked.roots)) closed
+    × Closes found roots (Chosen asked.bind found roots) closed
     × IsClosedTo asked resources closed result
 
 -- the given refusal is the result if there is one, else what the closure comes to
-abbrev pub IsFoundTo : Request → List Candidate → (List ℕ → List Written) → Option Refusal
+abbrev pub IsFoundTo : Request → List (List ℕ) → List Candidate → (List ℕ → List Written)
+    → Option Refusal → Result LinkedImage Refusal → Type 0
+IsFoundTo asked roots found resources (Some refusal) result = result ≡ Err refusal
+IsFoundTo asked roots found resources None result = IsLinkedOf asked roots found resources result
+
+-- what a link of modules comes to from these roots, by the resources of those at some places
+abbrev pub LinksAmong : Request → List (List ℕ) → List Candidate → (List ℕ → List Written)
     → Result LinkedImage Refusal → Type 0
-IsFoundTo asked found resources (Some refusal) result = result ≡ Err refusal
-IsFoundTo asked found resources None result = IsLinkedOf asked found resources result
+LinksAmong asked roots found resources result =
+    IsFoundTo asked roots found resources (reserved found) result
 
--- what a link of modules comes to, whatever shows them, by the resources of those at some places
-abbrev pub LinksAmong : Request → List Candidate → (List ℕ → List Written)
-    → Result LinkedImage Refusal → Type 0
-LinksAmong asked found resources result =
-    IsFoundTo asked found resources (reserved found) result
+-- what a link of what was found comes to; a refusal of what was to be found is its own
+abbrev pub LinksFound : Request → Result Found Refusal → Result LinkedImage Refusal → Type 0
+LinksFound asked (Ok found) result =
+    LinksAmong asked (roots_among found.named asked.roots) (candidates_of found.modules)
+    (gathered found.modules) result
+LinksFound asked (Err refusal) result = result ≡ Err refusal
 
--- The module path
-
--- the refusal of a module path as one of a link
-abbrev pub path_refusal_as : PathRefusal → Refusal
-path_refusal_as (path.BadInfo path fault) = refusal.BadInfo path fault
-path_refusal_as (path.TwoModules dir name) = refusal.TwoModules dir name
-
--- the refusal of the module path is the result if there is one, else what its modules come to
-abbrev pub IsPathTo : Files → List (List ℕ) → Request → Option PathRefusal
-    → Result LinkedImage Refusal → Type 0
-IsPathTo files directories asked (Some given) result = result ≡ Err (path_refusal_as given)
-IsPathTo files directories asked None result =
-    LinksAmong asked (candidates (visible asked.release files directories))
-    (resources_in files (visible asked.release files directories)) result
-
--- the rule: what a link of the modules that the directories of these files show comes to, refusal
--- by refusal in their order
-abbrev pub LinksTo : Files → List (List ℕ) → Request → Result LinkedImage Refusal → Type 0
-LinksTo files directories asked result =
-    IsPathTo files directories asked (path_refusal asked.release files directories) result
+-- the rule: what a link of the modules of an image and of a module path comes to, refusal by
+-- refusal in their order
+abbrev pub LinksFrom : Sources → Request → Result LinkedImage Refusal → Type 0
+LinksFrom source asked result =
+    (found : Result Found Refusal) × Finds asked.release source found
+    × LinksFound asked found result

@@ -1,5 +1,6 @@
 -- What a `link` did to the files of a shelf (this project's rule).
-use Rattle.std.specs.Prelude.{ℕ, ◌≡◌, ◌⊎◌, IsTrue, List, length, Option, Result, Ok, Err}
+use Rattle.std.specs.Prelude.{ℕ, ◌≡◌, ◌⊎◌, IsTrue, List, [], ◌∷◌, length}
+use Rattle.std.specs.Prelude.{Option, Some, Result, Ok, Err}
 use Rattle.jm_bytes.specs.declared.words.Order.{Order}
 use Rattle.jm_form.specs.Layout.{Written}
 use Rattle.jm_outside.specs.Files.{Files}
@@ -11,7 +12,7 @@ use Rattle.jm_link.specs.declared.linking.LinkStop.{LinkStop}
 use Rattle.jm_link.specs.declared.linking.LinkStop.TheVariants as stop
 use Rattle.jm_link.specs.declared.linking.Summary.{Summary}
 use Rattle.jm_texts.specs.declared.refusal.Refusal.{Refusal}
-use Rattle.jm_link.specs.Linked.{LinkedImage, LinksTo, PlugsTo, Request}
+use Rattle.jm_link.specs.Linked.{LinkedImage, LinksFrom, PlugsTo, Request}
 use Rattle.jm_words.specs.declared.tasks.LinkTask.{LinkTask}
 
 -- what of a task decides its image, whatever shows the modules
@@ -38,11 +39,21 @@ abbrev pub IsLaid : Order → Result LinkedImage Refusal → Type 0
 IsLaid order (Ok image) = IsLaidOut order image.resources image.bytes
 IsLaid order (Err refusal) = Unit {0}
 
--- this is what the link comes to, where the shelf tells its files; told or not, an image is valid,
--- hands out exactly its resources, and tells exactly their trees
-abbrev pub ComesTo : Option Files → List (List ℕ) → Request → Result LinkedImage Refusal → Type 0
-ComesTo told directories asked result =
-    Shows told (λ files. LinksTo files directories asked result) × IsLaid asked.order result
+-- the files that show the modules of a module path, where a shelf tells them; without directories
+-- none do
+abbrev pub path_files : List (List ℕ) → Option Files → Option Files
+path_files [] told = Some []
+path_files (directory ∷ directories) told = told
+
+-- this is what the link comes to of an image, if there is one, and of a module path, where the
+-- shelf tells its files; told or not, an image is valid, hands out exactly its resources, and tells
+-- exactly their trees
+abbrev pub ComesTo : Option Files → Option (List ℕ) → List (List ℕ) → Request
+    → Result LinkedImage Refusal → Type 0
+ComesTo told image directories asked result =
+    Shows (path_files directories told) (λ files. LinksFrom
+    (record { image = image; files = files; directories = directories }) asked result)
+    × IsLaid asked.order result
 
 -- what a link did, where its result is one of these
 
@@ -75,16 +86,6 @@ LinksBy Comes Absent path (Err (stop.NotThere listed)) old new =
 LinksBy Comes Absent path (Err stop.Outside) old new =
     BreaksOff Comes path old new × ShelfFailed old new
 LinksBy Comes Absent path (Err stop.Memory) old new = BreaksOff Comes path old new
-
--- the shelf doesn't tell its files: one that does never says of a listed file that it isn't there
-abbrev pub TellsNothing : Option Files → Type 0
-TellsNothing told = Shows told (λ files. ⊥)
-
--- what a link of the modules of a module path did to the files, by its answer
-abbrev pub Links : List (List ℕ) → Request → List ℕ → Result Summary LinkStop
-    → (old new : ShelfSeen) → Type 0
-Links directories asked path answer old new =
-    LinksBy (ComesTo old.told directories asked) (TellsNothing old.told) path answer old new
 
 -- what the resources of that many modules come to, and an image is laid out
 abbrev pub PoolComesTo : Request → ℕ → List Written → Result LinkedImage Refusal → Type 0

@@ -6,14 +6,15 @@ use Rattle.jm_modpath.specs.declared.refusal.PathStop.{PathStop}
 use Rattle.jm_modpath.specs.declared.refusal.PathStop.TheVariants as path_stop
 use Rattle.jm_outside.specs.declared.shelf.ShelfError.{ShelfError}
 use Rattle.jm_outside.specs.declared.shelf.ShelfError.TheVariants as outside
-use Rattle.jm_relink.specs.declared.fault.GatherFault.{GatherFault}
 use Rattle.jm_texts.specs.declared.refusal.Refusal.{Refusal}
 use Rattle.jm_texts.specs.declared.refusal.Refusal.TheVariants as refusal
 use Rattle.jm_writer.specs.declared.draft.PlanFault.{PlanFault}
 use Rattle.jm_writer.specs.declared.draft.PlanFault.TheVariants as plan
+use Rattle.jm_modset.specs.declared.contents.ReadStop.{ReadStop}
+use Rattle.jm_modset.specs.declared.contents.ReadStop.TheVariants as read_stop
+use Rattle.jm_modset.specs.Found.{path_refusal_as}
 use Rattle.jm_link.specs.declared.linking.LinkStop.{LinkStop}
 use Rattle.jm_link.specs.declared.linking.LinkStop.TheVariants as stop
-use Rattle.jm_link.specs.Linked.{path_refusal_as}
 
 -- by why a step ended the work: what holds of its refusal; what shows that a listed file isn't
 -- there; what shows that a call of the shelf failed; no memory
@@ -62,9 +63,11 @@ stop_of_path (path_stop.NotThere path) = stop.NotThere path
 stop_of_path path_stop.Outside = stop.Outside
 stop_of_path path_stop.Memory = stop.Memory
 
--- the fault of an image's resources as the refusal of a link
-abbrev pub gathering_refusal : GatherFault → Refusal
-gathering_refusal bad = refusal.BadName bad.name bad.fault
+-- why reading contents ends the work
+abbrev pub stop_of_read : ReadStop → LinkStop
+stop_of_read (read_stop.NotThere path) = stop.NotThere path
+stop_of_read read_stop.Outside = stop.Outside
+stop_of_read read_stop.Memory = stop.Memory
 
 -- the fault of a plan as the refusal of a link
 abbrev pub plan_refusal : PlanFault → Refusal

@@ -6,7 +6,7 @@ ghost use Rattle.jm_outside.specs.Outcome.{CountsFaults};
 ghost use Rattle.jm_outside.specs.Shelves.{shelf_at};
 ghost use Rattle.jm_pool.specs.Pairs.{names_of};
 ghost use Rattle.jm_writer.specs.Drafts.{IsDraft};
-ghost use Rattle.jm_link.specs.Resources.{AreFit};
+ghost use Rattle.jm_modset.specs.Shown.{AreFit};
 ghost use Rattle.jm_link.specs.Steps.{AfterStep};
 ghost use Rattle.jm_link.specs.Written.{WritesImage};
 

@@ -1,13 +1,13 @@
-//! What `link` reads and writes: the closure of the modules of a module path or of an image, the
+//! What `link` reads and writes: the closure of the modules of an image and of a module path, the
 //! resources of those that are linked, and the image of them.
 #![tactic(auto)]
 
 mod closing;
+mod finding;
 mod image;
-mod image_parts;
 mod linking;
+mod modules;
 mod relinking;
-mod resources;
 mod stops;
 
 pub use image::write_image;

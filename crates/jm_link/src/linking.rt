@@ -1,20 +1,16 @@
-//! A whole `link` from a module path.
-ghost use Rattle.std.specs.Prelude.{◌≢◌, ◌<◌, [], All, IsTrue, IsUtf8};
-ghost use Rattle.jm_link.specs.Links.{Links, request_of};
-ghost use Rattle.jm_link.specs.PathTaken.{PathTakes};
+//! A whole `link`.
+ghost use Rattle.std.specs.Prelude.{◌≡◌, ◌≢◌, ◌<◌, [], None, All, IsTrue, IsUtf8};
+ghost use Rattle.jm_link.specs.FiledLinked.{FiledLinks};
+ghost use Rattle.jm_link.specs.Links.{request_of};
 ghost use Rattle.jm_link.specs.Steps.{AfterStep, Lacks};
 ghost use Rattle.jm_modpath.specs.Listed.{IsBelow};
 ghost use Rattle.jm_outside.specs.Shelves.{shelf_at};
-ghost use Rattle.jm_words.specs.Paths.{directories_of};
 
-use crate::closing::closed;
-use crate::image::write_image;
-use crate::resources::{link_files, read_resources};
-use jm_bytes::Text;
+use crate::modules::{SeenImage, link_modules};
+use jm_bytes::{List, Text};
 use jm_halves::{Gate, Workers};
-use jm_modpath::visible_modules;
 use jm_outside::Shelf;
-use jm_plugins::apply_for;
+use jm_relink::ImageModules;
 use jm_texts::Refusal;
 use jm_words::LinkTask;
 use std::alloc::Global;
@@ -46,11 +42,21 @@ pub enum LinkStop {
     Memory,
 }
 
+/// The modules of no image.
+fn no_modules<'a>(alloc: Global) -> ImageModules<'a>
+    ensures { result ≡ record { candidates = []; infos = []; files = [] } }
+{
+    ImageModules {
+        candidates: List::new(alloc),
+        infos: List::new(alloc),
+        files: List::new(alloc),
+    }
+}
+
 /// Links the modules of a module path that are reached from the roots, or bound by them, lets the
 /// plug-ins act on their resources, each on all jobs, and writes the image to the file at a path. A
-/// module of an earlier directory hides its name in later ones. A task whose source is an image has
-/// a module path without directories. The answer depends neither on the number of jobs nor on the
-/// gate.
+/// module of an earlier directory hides its name in later ones. The task's image isn't looked at.
+/// The answer depends neither on the number of jobs nor on the gate.
 pub fn link<R: Threads + Sync, S: Shelf, G: Gate + Sync>(
     rt: &R,
     alloc: Global,
@@ -60,31 +66,23 @@ pub fn link<R: Threads + Sync, S: Shelf, G: Gate + Sync>(
     gate: &G,
 ) -> Result<Summary, LinkStop>
     requires jobs { 0 < jobs }
-    requires directories { All IsUtf8 (directories_of task.now.source) }
+    requires directories { All IsUtf8 task.now.directories }
     requires output { IsUtf8 task.now.output }
-    ensures links { Links (directories_of task.now.source) (request_of task.now) task.now.output
-        result (shelf_at S.Shelf shelf.old) (shelf_at S.Shelf shelf.new) }
-    ensures lacks { Lacks (IsBelow (directories_of task.now.source)) result }
-    ensures takes { PathTakes (S.files shelf.old) (directories_of task.now.source)
-        (request_of task.now) (S.handed shelf.old) (S.handed shelf.new) }
+    ensures links { FiledLinks None task.now.directories (request_of task.now) task.now.output
+        result (shelf_at S.Shelf shelf.old) (shelf_at S.Shelf shelf.new) (S.handed shelf.old)
+        (S.handed shelf.new) }
+    ensures lacks { Lacks (IsBelow task.now.directories) result }
 
     // Files that were made before stand whole then, also after a refusal.
-    ensures whole { directories_of task.now.source ≢ []
-        → AfterStep (IsTrue (S.whole shelf.new)) result }
+    ensures whole { task.now.directories ≢ [] → AfterStep (IsTrue (S.whole shelf.new)) result }
 {
-    let directories = task.source.directories();
-    let visible = visible_modules(alloc, task.release, directories, shelf)?;
-    let places = closed(alloc, visible.candidates(), task)?;
-    let files = link_files(alloc, &visible, places.as_slice())?;
-    let read = read_resources(alloc, files, shelf)?;
     let workers = Workers {
         rt,
         alloc,
         jobs,
         gate,
     };
-    let plugins = task.plugins.as_slice();
-    let left = apply_for(&workers, task.release, read, plugins)?;
-    let output = task.output.as_slice();
-    write_image(alloc, task.order, places.len(), &left, output, shelf)
+    let path: &[u8] = b"";
+    let modules = no_modules(alloc);
+    link_modules(&workers, task, SeenImage { path, modules }, shelf)
 }

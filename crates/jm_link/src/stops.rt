@@ -1,17 +1,18 @@
 //! What ends the work of a `link`, from what ends a step of it.
 ghost use Rattle.std.specs.Prelude.{◌≡◌};
-ghost use Rattle.jm_link.specs.ImageLinked.{image_refusal};
+ghost use Rattle.jm_modset.specs.Found.{image_refusal};
 ghost use Rattle.jm_link.specs.Linked.{closing_refusal, plugging_refusal};
-ghost use Rattle.jm_link.specs.Steps.{gathering_refusal, plan_refusal, stop_of, stop_of_path};
-ghost use Rattle.jm_link.specs.Steps.{stop_of_fault};
+ghost use Rattle.jm_link.specs.Steps.{plan_refusal, stop_of, stop_of_path};
+ghost use Rattle.jm_link.specs.Steps.{stop_of_fault, stop_of_read};
 
 use crate::linking::LinkStop;
 use jm_bytes::{NoMemory, Or};
 use jm_closure::CloseFault;
 use jm_modpath::{PathRefusal, PathStop};
+use jm_modset::ReadStop;
 use jm_outside::ShelfError;
 use jm_plugins::BadClass;
-use jm_relink::{GatherFault, RelinkFault};
+use jm_relink::RelinkFault;
 use jm_texts::Refusal;
 use jm_writer::PlanFault;
 
@@ -93,15 +94,25 @@ impl From<Or<CloseFault>> for LinkStop {
     }
 }
 
-impl From<Or<GatherFault>> for LinkStop {
-    ghost from_gives = { λ error stop. stop ≡ stop_of_fault gathering_refusal error };
+impl From<Or<Refusal>> for LinkStop {
+    ghost from_gives = { λ error stop. stop ≡ stop_of_fault (λ refusal. refusal) error };
 
-    fn from(error: Or<GatherFault>) -> LinkStop {
+    fn from(error: Or<Refusal>) -> LinkStop {
         match error {
-            Or::Fault(GatherFault { name, fault }) => {
-                LinkStop::Refused(Refusal::BadName { name, fault })
-            }
+            Or::Fault(refusal) => LinkStop::Refused(refusal),
             Or::Memory => LinkStop::Memory,
+        }
+    }
+}
+
+impl From<ReadStop> for LinkStop {
+    ghost from_gives = { λ error stop. stop ≡ stop_of_read error };
+
+    fn from(error: ReadStop) -> LinkStop {
+        match error {
+            ReadStop::NotThere(path) => LinkStop::NotThere(path),
+            ReadStop::Outside => LinkStop::Outside,
+            ReadStop::Memory => LinkStop::Memory,
         }
     }
 }

@@ -6,8 +6,8 @@ use jm_zip::{
 use std::alloc::Global;
 use std::test::Fail;
 
-/// An archive of the folder `d/`, the stored file `a` and the deflated file `b`: their local records
-/// at 0, 32 and 65, the central ones at 109, 157 and 204, and the end record at 251.
+/// An archive of the folder `d/`, the stored file `a` and the deflated file `b`: their local
+/// records at 0, 32 and 65, the central ones at 109, 157 and 204, and the end record at 251.
 const ZIP: [u8; 273] = [
     0x50, 0x4B, 0x03, 0x04, 0x14, 0x00, 0x00, 0x00, 0x00, 0x00, 0x00, 0x00, 0x00, 0x00, 0x00, 0x00,
     0x00, 0x00, 0x00, 0x00, 0x00, 0x00, 0x00, 0x00, 0x00, 0x00, 0x02, 0x00, 0x00, 0x00, 0x64, 0x2F,

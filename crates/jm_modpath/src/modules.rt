@@ -90,4 +90,16 @@ impl VisibleModules {
     {
         both_at(self.candidates.as_slice(), self.folders.as_slice(), place)
     }
+
+    /// What the modules say, and their folders, in the same order.
+    pub fn into_parts(self) -> (List<Candidate>, List<ModuleFolder>)
+        ensures long { length result.0 ≡ length result.1 }
+        ensures modules { modules_with result.0 result.1 ≡ self }
+    {
+        let VisibleModules {
+            candidates,
+            folders,
+        } = self;
+        (candidates, folders)
+    }
 }

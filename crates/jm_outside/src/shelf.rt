@@ -198,8 +198,8 @@ pub trait Shelf {
         ensures faults { CountsFaults (faults self.old) (faults self.new) (IsOk result)
             (IsErrOf result ShelfError.Failed) };
 
-    /// Ends the making of files: what was made stands under its own name, and the file that was made
-    /// last is on the disk, where the shelf has one. All files stay.
+    /// Ends the making of files: what was made stands under its own name, and the file that was
+    /// made last is on the disk, where the shelf has one. All files stay.
     fn finish(&mut self, alloc: Global) -> Result<(), ShelfError>
         ensures files { files self.new ≡ files self.old }
         ensures whole { OnOk result (IsTrue (whole self.new)) }

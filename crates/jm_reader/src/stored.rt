@@ -77,8 +77,8 @@ impl<'a> StoredListing<'a> {
     }
 }
 
-/// Where in the file the stored bytes of an entry with this row begin, in bytes. No byte is read: the
-/// index says it.
+/// Where in the file the stored bytes of an entry with this row begin, in bytes. No byte is read:
+/// the index says it.
 pub fn place_of_stored(index: &StoredIndex, row: &Row) -> u64
     requires { SoundIn index.now (as_stored row.now) }
     ensures content { (b : List ℕ) → IsFileOf index.now.bytes index.now.length b

@@ -69,7 +69,7 @@ fn given<'a>(alloc: Global, words: &'a [String]) -> Result<Vec<Item<'a>>, AllocE
 
 /// Whether an item is the path of an image, or of another file that is read.
 fn is_file(item: &Item<'_>) -> bool {
-    matches!(item.row.1, Form::Path) && matches!(item.row.2, Field::File | Field::Source)
+    matches!(item.row.1, Form::Path) && matches!(item.row.2, Field::File | Field::FromImage)
 }
 
 /// The release that reads classes of a major version, if one does.
@@ -92,15 +92,18 @@ fn version_hint(alloc: Global, major: u64) -> Result<Option<String>, AllocError>
 
 /// What must hold a module that isn't found.
 fn no_module_hint(alloc: Global, items: &[Item<'_>]) -> Result<Option<String>, AllocError> {
-    let hint = if items.iter().any(|item| is_file(item)) {
-        "an image has the module NAME where it has the entry /NAME/module-info.class"
-    } else if items.iter().any(|item| matches!(item.row.1, Form::Folders)) {
-        "a module of --module-path is a folder in one of its directories, \
-         with a module-info.class directly in it; a JAR or a .jmod is none"
-    } else {
-        return Ok(None);
+    let image = "an image has the module NAME where it has the entry /NAME/module-info.class";
+    let path = "a module of --module-path is a folder in one of its directories, \
+                with a module-info.class directly in it; a JAR or a .jmod is none";
+    let has_image = items.iter().any(|item| is_file(item));
+    let has_path = items.iter().any(|item| matches!(item.row.1, Form::Folders));
+    let hint = match (has_image, has_path) {
+        (true, true) => format!(in alloc; "{image}; {path}")?,
+        (true, false) => String::from_str(alloc, image)?,
+        (false, true) => String::from_str(alloc, path)?,
+        (false, false) => return Ok(None),
     };
-    Ok(Some(String::from_str(alloc, hint)?))
+    Ok(Some(hint))
 }
 
 /// The archive that begins with some bytes.

@@ -78,13 +78,13 @@ fn too_many(alloc: Global, verb: Verb, word: &str) -> Result<String, AllocError>
     }
 }
 
-/// An option that stood before, or another one in whose place it stands.
+/// An option that stood before.
 fn repeated(alloc: Global, verb: Verb, word: &str) -> Result<Option<String>, AllocError> {
     let Some(row) = option_named(verb, word) else {
         return Ok(None);
     };
     let name = as_text(verb_name(verb));
-    let taken = joined(alloc, options_for(alloc, verb, row.2)?.as_slice(), " or ")?;
+    let taken = as_text(row.0);
     let hint = format!(in alloc; "'{word}' is one too many; {name} takes {taken} once")?;
     Ok(Some(hint))
 }
@@ -117,23 +117,22 @@ fn bad_value(alloc: Global, at: usize, items: &[Item<'_>]) -> Result<Option<Stri
     Ok(Some(hint))
 }
 
-/// The first argument or required option of a command that isn't there.
+/// The options of which one isn't there, or else the first argument or required option of a command
+/// that isn't.
 fn missing(alloc: Global, verb: Verb, items: &[Item<'_>]) -> Result<Option<String>, AllocError> {
+    let name = as_text(verb_name(verb));
+    let alternatives = options_with_modules(alloc, verb)?;
+    if !alternatives.is_empty() && !items.iter().any(|item| has_modules(item.row.2)) {
+        let taken = joined(alloc, alternatives.as_slice(), " or ")?;
+        return Ok(Some(format!(in alloc; "{name} needs {taken}")?));
+    }
     let argument = first_missing(arguments(verb), items);
     let Some(row) = argument.or(first_missing(options(verb), items)) else {
         return Ok(None);
     };
-    let name = as_text(verb_name(verb));
-    let alternatives = options_for(alloc, verb, row.2)?;
-    let hint = if alternatives.len() > 1 {
-        let taken = joined(alloc, alternatives.as_slice(), " or ")?;
-        format!(in alloc; "{name} needs {taken}")?
-    } else {
-        let taken = as_text(row.0);
-        let form = form_text(alloc, row)?;
-        format!(in alloc; "{name} needs {taken}, {form}")?
-    };
-    Ok(Some(hint))
+    let taken = as_text(row.0);
+    let form = form_text(alloc, row)?;
+    Ok(Some(format!(in alloc; "{name} needs {taken}, {form}")?))
 }
 
 /// The first row that must be there and isn't.
@@ -153,7 +152,6 @@ fn is_required(field: Field) -> bool {
         Field::File
             | Field::Name
             | Field::Folder
-            | Field::Source
             | Field::Roots
             | Field::Output
             | Field::Modules
@@ -162,11 +160,16 @@ fn is_required(field: Field) -> bool {
     )
 }
 
-/// The options of a command that give a field, each in the place of the others.
-fn options_for(alloc: Global, verb: Verb, field: Field) -> Result<Vec<Row>, AllocError> {
+/// Whether a field says where modules are.
+fn has_modules(field: Field) -> bool {
+    matches!(field, Field::Directories | Field::FromImage)
+}
+
+/// The options of a command that say where modules are, one of which must stand.
+fn options_with_modules(alloc: Global, verb: Verb) -> Result<Vec<Row>, AllocError> {
     let mut rows = Vec::new(alloc);
     for row in options(verb) {
-        if row.2 == field {
+        if has_modules(row.2) {
             rows.push(*row)?;
         }
     }

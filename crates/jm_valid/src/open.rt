@@ -109,8 +109,8 @@ fn check_body_alone(alloc: Global, sections: &Sections) -> Result<(), OpenError>
     check_entries(sections, contents_alone(alloc, sections)?)
 }
 
-/// The header of the files of this length that begin with these bytes, which have these sections, or
-/// what was found behind it.
+/// The header of the files of this length that begin with these bytes, which have these sections,
+/// or what was found after it.
 fn checked_header(
     front: &[u8],
     length: u64,

@@ -8,8 +8,8 @@ use jm_bytes::Buf;
 use jm_form::Header;
 use std::marker::Model;
 
-/// The index of an image that is valid as stored, its contents compressed or not: the first bytes of
-/// its file, up to its contents at least, its header and the file's length. It says all of the
+/// The index of an image that is valid as stored, its contents compressed or not: the first bytes
+/// of its file, up to its contents at least, its header and the file's length. It says all of the
 /// image's names, and where what is stored stands.
 #[derive(Drop)]
 pub struct StoredIndex<'a> {
@@ -49,9 +49,9 @@ impl<'a> StoredIndex<'a> {
         self.buf.again()
     }
 
-    /// The header, with which each file that has these first bytes and this length is an image that
-    /// is valid as stored; it is that of the first bytes alone, too, which are no more than the file
-    /// has.
+    /// The header, with which each file that has these first bytes and this length is an image
+    /// that is valid as stored; it is that of the first bytes alone, too, which are no more than
+    /// the file has.
     pub fn header(&self) -> Header
         ensures front { header_of self.now.bytes ≡ Ok result }
         ensures sound { (b : List ℕ) → IsFileOf self.now.bytes self.now.length b

@@ -4,7 +4,6 @@ use Rattle.std.specs.Prelude.{codes}
 use Rattle.jm_bytes.specs.declared.words.Order.TheVariants.{Little}
 use Rattle.jm_words.specs.declared.tasks.Plugin.TheVariants as plugin
 use Rattle.jm_words.specs.declared.tasks.ImageWork.TheVariants as work
-use Rattle.jm_words.specs.declared.tasks.Source.TheVariants as source
 use Rattle.jm_words.specs.declared.tasks.Task.TheVariants as task
 use Rattle.jm_words.specs.declared.errors.WordsKind.TheVariants as kind
 use Rattle.jm_words.specs.declared.tables.Field.TheVariants as field
@@ -41,8 +40,12 @@ no_option = refl
 help_with_argument : command_in (codes "--help" ∷ codes "x" ∷ []) ≡ fault_at 2 kind.TooManyArguments
 help_with_argument = refl
 
-two_sources : command_in (codes "link" ∷ codes "--module-path=m" ∷ codes "--from-image" ∷ []) ≡ fault_at 3 kind.Repeated
-two_sources = refl
+module_path_twice : command_in (codes "link" ∷ codes "--module-path=m" ∷ codes "--from-image=i" ∷ codes "--module-path=n" ∷ [])
+    ≡ fault_at 4 kind.Repeated
+module_path_twice = refl
+
+image_twice : command_in (codes "link" ∷ codes "--from-image=i" ∷ codes "--module-path=m" ∷ codes "--from-image" ∷ []) ≡ fault_at 4 kind.Repeated
+image_twice = refl
 
 value_before_option : command_in (codes "cat" ∷ codes "--jobs" ∷ codes "--zap" ∷ []) ≡ fault_at 3 kind.BadValue
 value_before_option = refl
@@ -56,7 +59,8 @@ link_from_folders : command_in (codes "link" ∷ codes "--module-path=x/:y" ∷ 
     ≡ Ok (record {
       jobs = 1;
       task = task.Link (record {
-        source = source.Path (codes "x" ∷ codes "y" ∷ []);
+        directories = codes "x" ∷ codes "y" ∷ [];
+        image = None;
         roots = codes "a" ∷ codes "b" ∷ [];
         output = codes "o";
         plugins = plugin.Compact ∷ [];
@@ -67,12 +71,36 @@ link_from_folders : command_in (codes "link" ∷ codes "--module-path=x/:y" ∷ 
     })
 link_from_folders = refl
 
+link_from_both : command_in (codes "link" ∷ codes "--module-path=x/:y" ∷ codes "--from-image" ∷ codes "i" ∷ codes "--output" ∷ codes "o"
+    ∷ codes "--keep-order" ∷ codes "--add-modules=a" ∷ [])
+    ≡ Ok (record {
+      jobs = 1;
+      task = task.Link (record {
+        directories = codes "x" ∷ codes "y" ∷ [];
+        image = Some (codes "i");
+        roots = codes "a" ∷ [];
+        output = codes "o";
+        plugins = plugin.KeepOrder [] ∷ [];
+        order = Little;
+        bind = false;
+        release = 21;
+      });
+    })
+link_from_both = refl
+
+in_other_order : command_in (codes "link" ∷ codes "--add-modules=a" ∷ codes "--keep-order" ∷ codes "--output" ∷ codes "o"
+    ∷ codes "--from-image=i" ∷ codes "--module-path" ∷ codes "x:y/" ∷ [])
+    ≡ command_in (codes "link" ∷ codes "--module-path=x/:y" ∷ codes "--from-image" ∷ codes "i" ∷ codes "--output" ∷ codes "o"
+    ∷ codes "--keep-order" ∷ codes "--add-modules=a" ∷ [])
+in_other_order = refl
+
 link_with_packages : command_in (codes "link" ∷ codes "--from-image=i" ∷ codes "--module-packages" ∷ codes "--output" ∷ codes "o"
     ∷ codes "--release=24" ∷ codes "--module-packages" ∷ codes "--add-modules=a" ∷ [])
     ≡ Ok (record {
       jobs = 1;
       task = task.Link (record {
-        source = source.Image (codes "i");
+        directories = [];
+        image = Some (codes "i");
         roots = codes "a" ∷ [];
         output = codes "o";
         plugins = plugin.Packages ∷ plugin.Packages ∷ [];
@@ -88,7 +116,8 @@ link_of_all_modules : command_in (codes "link" ∷ codes "--from-image=i" ∷ co
     ≡ Ok (record {
       jobs = 1;
       task = task.Link (record {
-        source = source.Image (codes "i");
+        directories = [];
+        image = Some (codes "i");
         roots = codes "ALL-MODULE-PATH" ∷ codes "a" ∷ [];
         output = codes "o";
         plugins = plugin.DropSystemModules ∷ plugin.DropSystemModules ∷ [];
@@ -104,7 +133,8 @@ order_kept : command_in (codes "link" ∷ codes "--keep-order" ∷ codes "--from
     ≡ Ok (record {
       jobs = 1;
       task = task.Link (record {
-        source = source.Image (codes "i");
+        directories = [];
+        image = Some (codes "i");
         roots = codes "a" ∷ [];
         output = codes "o";
         plugins = plugin.KeepOrder [] ∷ plugin.KeepOrder [] ∷ [];

@@ -1,6 +1,6 @@
 -- The command that words make (this project's rule).
 use Rattle.std.specs.Prelude.{ℕ, List, Option, Some, None, option_map}
-use Rattle.std.specs.Prelude.{unwrap_or}
+use Rattle.std.specs.Prelude.{unwrap_or, if◌then◌else◌}
 use Rattle.std.specs.List.{find}
 use Rattle.std.specs.Str.{bytes_eq}
 use Rattle.jm_bytes.specs.declared.words.Order.TheVariants.{Little}
@@ -19,8 +19,8 @@ use Rattle.jm_words.specs.declared.tasks.Plugin.{Plugin}
 use Rattle.jm_words.specs.declared.tasks.Task.{Task}
 use Rattle.jm_words.specs.declared.tasks.Task.TheVariants as task
 use Rattle.jm_pattern.specs.declared.signs.Sign.{Sign}
-use Rattle.jm_words.specs.Drafts.{has, name_in, names_in, number_in, order_in, path_in}
-use Rattle.jm_words.specs.Drafts.{patterns_in, source_in, the}
+use Rattle.jm_words.specs.Drafts.{gives_modules, has, name_in, names_in, number_in, order_in}
+use Rattle.jm_words.specs.Drafts.{path_in, paths_in, patterns_in, the}
 use Rattle.jm_words.specs.Tables.{verbs, verb_name}
 
 -- what is made of a value that must be there, if it is
@@ -32,21 +32,24 @@ needing (Some value) make = make value
 abbrev pub release_of : List Given → ℕ
 release_of values = unwrap_or (number_in (the field.Release values)) 21
 
--- the `link` of what was given, or none where an option isn't there that must be
+-- the `link` of what was given, or none where an option isn't there that must be: one of a module
+-- path and an image, the roots, and the output
 abbrev pub link_of : List Given → List Plugin → Option LinkTask
 link_of values plugins =
-    needing (source_in (the field.Source values)) (λ source.
+    if gives_modules values then
     needing (names_in (the field.Roots values)) (λ roots.
     needing (path_in (the field.Output values)) (λ output.
     Some (record {
-      source = source;
+      directories = paths_in (the field.Directories values);
+      image = path_in (the field.FromImage values);
       roots = roots;
       output = output;
       plugins = plugins;
       order = unwrap_or (order_in (the field.Order values)) Little;
       bind = has values field.Bind;
       release = release_of values;
-    }))))
+    })))
+    else None
 
 -- the `decompress` of what was given, or none where the image or an option isn't there that must be
 abbrev pub decompress_of : List Given → Option DecompressTask

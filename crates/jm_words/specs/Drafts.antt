@@ -1,12 +1,10 @@
 -- What words give (this project's rule): fields with their values, and the plug-ins.
-use Rattle.std.specs.Prelude.{◌≡◌, ℕ, Bool, false, List, [], ◌∷◌, ◌++◌, filter}
+use Rattle.std.specs.Prelude.{◌≡◌, ℕ, Bool, false, ◌||◌, List, [], ◌∷◌, ◌++◌, filter}
 use Rattle.std.specs.Prelude.{Option, None, Some, option_map, is_none, is_some, if◌then◌else◌}
 use Rattle.std.specs.List.{filter_map, find}
 use Rattle.jm_bytes.specs.declared.words.Order.{Order}
 use Rattle.jm_pattern.specs.declared.signs.Sign.{Sign}
 use Rattle.jm_words.specs.declared.tasks.Plugin.{Plugin}
-use Rattle.jm_words.specs.declared.tasks.Source.{Source}
-use Rattle.jm_words.specs.declared.tasks.Source.TheVariants as source
 use Rattle.jm_words.specs.declared.drafts.Draft.{Draft}
 use Rattle.jm_words.specs.declared.given.Value.{Value}
 use Rattle.jm_words.specs.declared.given.Value.TheVariants as value
@@ -43,15 +41,18 @@ abbrev pub name_in : Option Value → Option (List ℕ)
 name_in (Some (value.Name name)) = Some name
 name_in _ = None
 
--- the source that a value is: the directories of `--module-path`, or the image of `--from-image`
-abbrev pub source_in : Option Value → Option Source
-source_in (Some (value.Paths directories)) = Some (source.Path directories)
-source_in (Some (value.Path image)) = Some (source.Image image)
-source_in _ = None
+-- the paths that a value is, or none
+abbrev pub paths_in : Option Value → List (List ℕ)
+paths_in (Some (value.Paths paths)) = paths
+paths_in _ = []
 
 -- the path of an image to link is given
 abbrev pub gives_image : List Given → Bool
-gives_image values = is_some (path_in (the field.Source values))
+gives_image values = is_some (path_in (the field.FromImage values))
+
+-- the words have a module path or an image
+abbrev pub gives_modules : List Given → Bool
+gives_modules values = has values field.Directories || has values field.FromImage
 
 -- the names that a value is, if it is some
 abbrev pub names_in : Option Value → Option (List (List ℕ))

@@ -17,7 +17,7 @@ lines verb.Link = (
 )
     ∷ (
       codes "link --from-image FILE --add-modules NAMES --output FILE [options] [plug-ins]",
-      codes "the same with the modules of another image",
+      codes "the same with the modules of another image; --module-path may stand too",
     )
     ∷ []
 lines verb.Cat = (codes "cat IMAGE NAME", codes "prints the bytes of the entry of that name") ∷ []

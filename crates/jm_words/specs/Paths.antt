@@ -1,28 +1,16 @@
 -- What is known of a task that words make (this project's rule).
-use Rattle.std.specs.Prelude.{ℕ, ◌≤◌, List, [], All, IsUtf8}
+use Rattle.std.specs.Prelude.{ℕ, ◌≤◌, All, IfSome, IsUtf8}
 use Rattle.jm_words.specs.declared.tasks.DecompressTask.{DecompressTask}
 use Rattle.jm_words.specs.declared.tasks.GenTask.{GenTask}
 use Rattle.jm_words.specs.declared.tasks.ImageWork.{ImageWork}
 use Rattle.jm_words.specs.declared.tasks.ImageWork.TheVariants as work
 use Rattle.jm_words.specs.declared.tasks.LinkTask.{LinkTask}
-use Rattle.jm_words.specs.declared.tasks.Source.{Source}
-use Rattle.jm_words.specs.declared.tasks.Source.TheVariants as source
 use Rattle.jm_words.specs.declared.tasks.Task.{Task}
 use Rattle.jm_words.specs.declared.tasks.Task.TheVariants as task
 
--- the directories of a module path; none where an image has the modules
-abbrev pub directories_of : Source → List (List ℕ)
-directories_of (source.Path directories) = directories
-directories_of (source.Image path) = []
-
--- the paths of a source are UTF-8
-abbrev pub SourceIsText : Source → Type 0
-SourceIsText (source.Path directories) = All IsUtf8 directories
-SourceIsText (source.Image path) = IsUtf8 path
-
 -- the paths of the files and folders that a `link` names are UTF-8
 abbrev pub LinkIsText : LinkTask → Type 0
-LinkIsText link = SourceIsText link.source × IsUtf8 link.output
+LinkIsText link = All IsUtf8 link.directories × IfSome link.image IsUtf8 × IsUtf8 link.output
 
 -- the paths of the files that a `decompress` names are UTF-8
 abbrev pub DecompressIsText : DecompressTask → Type 0

@@ -110,8 +110,8 @@ has_form left (ValueFor row text) = true
 has_form left (AsArgument text) = not (is_none_left left)
 has_form left _ = false
 
--- an option stands again where its field is given already: by it, or by the one in whose place it
--- stands. Plug-ins may, and give none of these values
+-- an option stands again where its field is given already. Plug-ins may, and give none of these
+-- values
 abbrev pub stands_again : List Given → Option Row → Bool
 stands_again values None = false
 stands_again values (Some row) = has values row.field

@@ -109,10 +109,12 @@ arguments _ = []
 abbrev pub options : Verb → List Row
 options verb.Link =
     jobs
-    ∷ row (codes "--module-path") form.Folders field.Source
-    ∷ row (codes "--from-image") form.Path field.Source
+    ∷ option_row (codes "--module-path") form.Folders field.Directories
+    (codes "the directories to find modules in, with colons between them")
+    ∷ option_row (codes "--from-image") form.Path field.FromImage
+    (codes "the image to find modules in, before the directories of --module-path")
     ∷ option_row (codes "--add-modules") form.Names field.Roots
-    (codes "the modules to link; ALL-MODULE-PATH among them stands for all modules")
+    (codes "the modules to link; ALL-MODULE-PATH is all of DIRS, or else of the image")
     ∷ output
     ∷ option_row (codes "--endian") form.Order field.Order
     (codes "the byte order of the image: little, or big")

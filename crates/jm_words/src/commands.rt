@@ -10,8 +10,8 @@ ghost use Rattle.jm_words.specs.Rule.{command_in, with_image};
 ghost use Rattle.jm_words.specs.Tables.{verb_name};
 
 use crate::drafts::{
-    Draft, gives_image, has, number, order, take_name, take_names, take_path, take_patterns,
-    take_source,
+    Draft, gives_image, gives_modules, has, number, order, take_name, take_names, take_path,
+    take_paths, take_patterns,
 };
 use crate::errors::{WordsFault, WordsKind};
 use crate::given::Given;
@@ -46,7 +46,7 @@ pub fn read_words(alloc: Global, words: &[String]) -> Result<Command, Or<WordsFa
     };
     let draft = with_image(draft_of(alloc, verb, behind)?)?;
     let jobs = jobs_of(draft.values.as_slice());
-    match task_of(verb, draft) {
+    match task_of(alloc, verb, draft) {
         Some(task) => Ok(Command { jobs, task }),
         None => Err(Or::Fault(WordsFault {
             at: words.len(),
@@ -105,7 +105,7 @@ fn release_of(values: &[Given]) -> u32
 }
 
 /// The task of what was given, if all is there that must be.
-fn task_of(verb: Verb, draft: Draft) -> Option<Task>
+fn task_of(alloc: Global, verb: Verb, draft: Draft) -> Option<Task>
     ensures task { result ≡ task_of verb draft }
     ensures paths { IfSome result FilePathsAreText }
     ensures numbers { IfSome result NumbersFit }
@@ -113,7 +113,7 @@ fn task_of(verb: Verb, draft: Draft) -> Option<Task>
     let mut values = draft.values.into_vec();
     let values = values.as_mut_slice();
     match verb {
-        Verb::Link => Some(Task::Link(link_of(values, draft.plugins)?)),
+        Verb::Link => Some(Task::Link(link_of(alloc, values, draft.plugins)?)),
         Verb::Decompress => Some(Task::Decompress(decompress_of(values)?)),
         Verb::Gen => Some(Task::Gen(gen_of(values)?)),
         Verb::Describe => Some(Task::Describe {
@@ -187,19 +187,24 @@ fn gen_of(values: &mut [Given]) -> Option<GenTask>
 }
 
 /// The `link` of what was given, if all is there that must be.
-fn link_of(values: &mut [Given], plugins: List<Plugin>) -> Option<LinkTask>
+fn link_of(alloc: Global, values: &mut [Given], plugins: List<Plugin>) -> Option<LinkTask>
     ensures task { result ≡ link_of values.old plugins }
     ensures paths { IfSome result LinkIsText }
     ensures release { IfSome result (λ link. IsRelease link.release) }
 {
+    if !gives_modules(values) {
+        return None;
+    }
     let order = order(values, Field::Order).unwrap_or(Order::Little);
     let bind = has(values, Field::Bind);
     let release = release_of(values);
-    let source = take_source(values, Field::Source)?;
+    let directories = take_paths(alloc, values, Field::Directories);
+    let image = take_path(values, Field::FromImage);
     let roots = take_names(values, Field::Roots)?;
     let output = take_path(values, Field::Output)?;
     Some(LinkTask {
-        source,
+        directories,
+        image,
         roots,
         output,
         plugins,

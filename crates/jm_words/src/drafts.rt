@@ -1,13 +1,12 @@
 ghost use Rattle.std.specs.Prelude.{◌≡◌, option_map, All, IfSome, IsUtf8, OnOk};
-ghost use Rattle.jm_words.specs.Drafts.{LeavesOthers, gives_image, has, name_in, names_in, nothing};
-ghost use Rattle.jm_words.specs.Drafts.{number_in, order_in, path_in, patterns_in, source_in, the};
-ghost use Rattle.jm_words.specs.Drafts.{with_given};
+ghost use Rattle.jm_words.specs.Drafts.{LeavesOthers, gives_image, gives_modules, has, name_in};
+ghost use Rattle.jm_words.specs.Drafts.{names_in, nothing, number_in, order_in, path_in, paths_in};
+ghost use Rattle.jm_words.specs.Drafts.{patterns_in, the, with_given};
 ghost use Rattle.jm_words.specs.Fits.{Fits, IsWithin};
-ghost use Rattle.jm_words.specs.Paths.{SourceIsText};
 
 use crate::given::{Given, Value, plugin_or_given};
 use crate::tables::Field;
-use crate::tasks::{Plugin, Source};
+use crate::tasks::Plugin;
 use jm_bytes::{List, NoMemory, Order, Text};
 use jm_pattern::Pattern;
 use std::alloc::Global;
@@ -52,7 +51,14 @@ impl Draft {
 pub fn gives_image(values: &[Given]) -> bool
     ensures { result ≡ gives_image values.now }
 {
-    matches!(find(values, Field::Source), Some(Value::Path(_)))
+    matches!(find(values, Field::FromImage), Some(Value::Path(_)))
+}
+
+/// Whether a module path or an image to link is given.
+pub fn gives_modules(values: &[Given]) -> bool
+    ensures { result ≡ gives_modules values.now }
+{
+    has(values, Field::Directories) || has(values, Field::FromImage)
 }
 
 /// Whether a field is given.
@@ -136,16 +142,15 @@ pub fn take_patterns(values: &mut [Given], field: Field) -> Option<List<Pattern>
     }
 }
 
-/// The source that a field has, taken out, if it has one.
-pub fn take_source(values: &mut [Given], field: Field) -> Option<Source>
-    ensures source { result ≡ source_in (the field values.old) }
-    ensures text { IfSome result SourceIsText }
+/// The paths that a field has, taken out, or none.
+pub fn take_paths(alloc: Global, values: &mut [Given], field: Field) -> List<Text>
+    ensures paths { result ≡ paths_in (the field values.old) }
+    ensures text { All IsUtf8 result }
     ensures others { LeavesOthers field values.old values.new }
 {
-    match take(values, field)? {
-        Value::Paths(directories) => Some(Source::Path(directories)),
-        Value::Path(image) => Some(Source::Image(image)),
-        _ => None,
+    match take(values, field) {
+        Some(Value::Paths(paths)) => paths,
+        _ => List::new(alloc),
     }
 }
 

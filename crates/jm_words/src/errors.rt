@@ -12,7 +12,7 @@ pub enum WordsKind {
     UnknownCommand,
     /// The command has no such option.
     UnknownOption,
-    /// The option stood before, or the one in whose place it stands.
+    /// The option stood before.
     Repeated,
     /// The option's value isn't there.
     NoValue,

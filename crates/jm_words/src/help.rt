@@ -25,7 +25,7 @@ fn lines(verb: Verb) -> &'static [Line]
             ),
             Line(
                 b"link --from-image FILE --add-modules NAMES --output FILE [options] [plug-ins]",
-                b"the same with the modules of another image",
+                b"the same with the modules of another image; --module-path may stand too",
             ),
         ],
         Verb::Cat => &[Line(

@@ -16,4 +16,4 @@ pub use commands::{read_words, verb_named};
 pub use errors::{WordsFault, WordsKind};
 pub use help::help_text;
 pub use tables::{Field, Form, Part, Row, Verb, arguments, limits, options, verb_name, verbs};
-pub use tasks::{Command, DecompressTask, GenTask, ImageWork, LinkTask, Plugin, Source, Task};
+pub use tasks::{Command, DecompressTask, GenTask, ImageWork, LinkTask, Plugin, Task};

@@ -1,6 +1,3 @@
-ghost use Rattle.std.specs.Prelude.{◌≡◌};
-ghost use Rattle.jm_words.specs.Paths.{directories_of};
-
 use jm_bytes::{List, Order, Text};
 use jm_pattern::Pattern;
 
@@ -47,8 +44,11 @@ pub enum Task {
 /// What a `link` is to do.
 #[derive(Debug, Drop)]
 pub struct LinkTask {
-    /// Where the modules are.
-    pub source: Source,
+    /// The directories of the module path, an earlier one before later ones; none where the words
+    /// have no module path.
+    pub directories: List<Text>,
+    /// The path of the image whose modules are linked too.
+    pub image: Option<Text>,
     /// The names of the modules that are linked with all that they require.
     pub roots: List<Text>,
     /// The path of the file that gets the image.
@@ -61,27 +61,6 @@ pub struct LinkTask {
     pub bind: bool,
     /// The release of Java SE up to which classes are read, from 21 to 25.
     pub release: u32,
-}
-
-/// Where the modules of a `link` are.
-#[derive(Debug, Drop)]
-pub enum Source {
-    /// In the directories of a module path, an earlier one before later ones.
-    Path(List<Text>),
-    /// In the image at a path.
-    Image(Text),
-}
-
-impl Source {
-    /// The directories of the module path; none where an image has the modules.
-    pub fn directories(&self) -> &[Text]
-        ensures { result.now ≡ directories_of self.now }
-    {
-        match self {
-            Source::Path(directories) => directories.as_slice(),
-            Source::Image(_) => &[],
-        }
-    }
 }
 
 /// What is done to the list of resources.

@@ -23,7 +23,7 @@ returns-in_err-held-clause-does g c =
     (record {
       bytes = b;
       filed = held.holds.filed;
-      does = stopped (DecompressComes b) (IsRefusedBy b) c.args.output.now c.in_err-held.field-0.0 (shelf_at g.S.Shelf c.args.shelf.now)
+      does = stopped (DecompressComes b) ⊥ (IsRefusedBy b) c.args.output.now c.in_err-held.field-0.0 (shelf_at g.S.Shelf c.args.shelf.now)
           (shelf_at g.S.Shelf c.held_image.new.shelf) held.files held.holds.gives (judged_comes b)
           (λ is. held.faults.rose (ap (λ (s : LinkStop). Err s) is));
       takes = held.holds.takes;

@@ -1,1 +1,0 @@
--- The closure of the roots that are asked for, from that of the roots that they are among the modules.

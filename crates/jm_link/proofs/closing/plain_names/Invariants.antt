@@ -1,6 +1,0 @@
-use Rattle.std.proofs.Common.{◌≡◌, ◌++◌, drop}
-use Rattle.jm_link.specs.Chosen.{plain_names}
-use Rattle.jm_link.proofs.closing.plain_names.Given as goal
-
-abbrev pub invariant-loop-name : goal.invariant-loop-name
-invariant-loop-name l = l.names ++ plain_names (drop l.name-index l.asked) ≡ plain_names l.asked

@@ -1,7 +1,0 @@
-use Rattle.std.proofs.Common.{◌≡◌, ◌++◌, drop, map}
-use Rattle.jm_closure.specs.Modules.{name_of}
-use Rattle.jm_link.proofs.closing.push_names.Given as goal
-
-abbrev pub invariant-loop-module : goal.invariant-loop-module
-invariant-loop-module l =
-    l.names ++ map name_of (drop l.module-index l.found) ≡ l.fn.names ++ map name_of l.found

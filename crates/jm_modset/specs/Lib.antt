@@ -1,0 +1,6 @@
+pub mod Files
+pub mod Found
+pub mod Infos
+pub mod Parts
+pub mod Set
+pub mod Shown
